@@ -1,0 +1,35 @@
+/// A system change number: the place of a redo record or of a transaction's end in the order of all.
+#[derive(Clone, Copy, Debug, PartialEq, Eq, PartialOrd, Ord)]
+pub struct Scn(pub u64);
+
+/// The number of an instance, from 0 to 7; also of its redo thread and of its undo segment.
+#[derive(Clone, Copy, Debug, PartialEq, Eq, PartialOrd, Ord)]
+pub struct InstNo(pub u8);
+
+/// The number of a block on the disk.
+#[derive(Clone, Copy, Debug, PartialEq, Eq, PartialOrd, Ord)]
+pub struct BlockNo(pub u16);
+
+/// The number of a row, from 0 to 511. Row K stands in block K / 8.
+#[derive(Clone, Copy, Debug, PartialEq, Eq, PartialOrd, Ord)]
+pub struct RowNo(pub u16);
+
+/// A place in a redo thread, in bytes from the beginning of its log.
+#[derive(Clone, Copy, Debug, PartialEq, Eq, PartialOrd, Ord)]
+pub struct RedoAt(pub u64);
+
+/// The name of a transaction: its undo segment, its slot there (0 to 7), and how often that slot was
+/// taken (from 1).
+#[derive(Clone, Copy, Debug, PartialEq, Eq, PartialOrd, Ord)]
+pub struct Xid {
+    pub seg: InstNo,
+    pub slot: u8,
+    pub wrap: u32,
+}
+
+/// The name of an undo record: its segment and its sequence number there, from 1.
+#[derive(Clone, Copy, Debug, PartialEq, Eq, PartialOrd, Ord)]
+pub struct UndoAt {
+    pub seg: InstNo,
+    pub seq: u64,
+}
