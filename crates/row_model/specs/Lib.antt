@@ -1,0 +1,5 @@
+pub mod Past
+pub mod Standing
+pub mod History
+pub mod Sees
+pub mod Good

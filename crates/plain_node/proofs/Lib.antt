@@ -1,0 +1,4 @@
+pub mod ValueLemmas
+pub mod SoundLemmas
+pub mod StepLemmas
+pub mod LineLemmas
