@@ -2,4 +2,6 @@ pub mod Past
 pub mod Standing
 pub mod History
 pub mod Sees
+pub mod Stood
 pub mod Good
+pub mod Checked
