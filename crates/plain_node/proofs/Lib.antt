@@ -2,3 +2,4 @@ pub mod ValueLemmas
 pub mod SoundLemmas
 pub mod StepLemmas
 pub mod LineLemmas
+pub mod FitsLemmas

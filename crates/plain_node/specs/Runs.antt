@@ -1,5 +1,5 @@
 -- Which lines the node can run.
-use Rattle.std.specs.Prelude.{◌≡◌, ℕ, ◌^◌, ◌<◌, ◌≤◌, List, [], ◌∷◌, ◌++◌, length, reverse, Bool, true, false, IfSome, Option}
+use Rattle.std.specs.Prelude.{◌≡◌, ℕ, ◌^◌, ◌<◌, ◌≤◌, List, [], ◌∷◌, ◌++◌, length, reverse, Bool, true, false, IfSome, is_some, Option}
 use Rattle.row_model.specs.Good.{Range}
 use Rattle.script_text.specs.declared.item.Item.{Item}
 use Rattle.script_text.specs.declared.item.Item.TheVariants.{Session, Stmt as StmtItem}
@@ -7,7 +7,7 @@ use Rattle.script_text.specs.declared.item.Stmt.{Stmt}
 use Rattle.script_text.specs.declared.item.Stmt.TheVariants.{Get, Put, Commit}
 use Rattle.plain_node.specs.declared.node.Node.{Node}
 use Rattle.plain_node.specs.Slots.{wrap_at}
-use Rattle.plain_node.specs.Sound.{Sound, parts_of}
+use Rattle.plain_node.specs.Sound.{Sound, Proper, parts_of}
 
 -- a statement that the node knows
 abbrev pub IsKnown : Stmt → Type 0
@@ -42,8 +42,11 @@ pub record Fits (last : ℕ) (node : Node) : Type 0 where
 
 -- the node can run these lines next
 abbrev pub CanRun : Node → List (ℕ × Item) → Type 0
-CanRun node lines = (last : ℕ) × (opened : Bool) × Fits last node × RunsPlainly last opened lines
+CanRun node lines = (last : ℕ) × Fits last node × RunsPlainly last (is_some node.home) lines
 
 -- the node's state agrees with its journal
 abbrev pub IsSound : (ℕ → Option Range) → Node → Type 0
 IsSound asked node = Sound asked 0 (reverse node.journal) (parts_of node)
+
+abbrev pub IsProper : Node → Type 0
+IsProper node = Proper 0 (reverse node.journal) (parts_of node)

@@ -7,7 +7,7 @@ use Rattle.rac_nums.specs.declared.names.InstNo.{InstNo}
 use Rattle.rac_nums.specs.declared.value.Value.{Value}
 use Rattle.rac_nums.specs.declared.value.Value.TheVariants.{Absent, Num}
 use Rattle.row_model.specs.declared.entry.Entry.{Entry}
-use Rattle.row_model.specs.declared.entry.Entry.TheVariants.{Started, Rows, Changed, Marked, Committed, Acked, Plain}
+use Rattle.row_model.specs.declared.entry.Entry.TheVariants.{Opened, Started, Rows, Changed, Marked, Committed, Acked, Plain}
 use Rattle.row_model.specs.Good.{listed}
 use Rattle.plain_node.specs.declared.node.Node.{Node}
 use Rattle.plain_node.specs.declared.slots.SlotUse.{SlotUse}
@@ -24,6 +24,10 @@ value_in node s row =
 -- the node with one more entry
 abbrev pub told : Node → Entry → Node
 told node e = record node { journal = node.journal ++ e ∷ [] }
+
+-- the session was opened on an instance
+abbrev pub opened : Node → ℕ → InstNo → Node
+opened node z inst = record node { home = Some inst; journal = node.journal ++ Opened z inst ∷ [] }
 
 -- a statement started
 abbrev pub started : Node → ℕ → ℕ → Node
@@ -75,6 +79,7 @@ ended_by node n x =
       scn = c;
       known = c;
       slots = slice_set node.slots x.slot (record { wrap = wrap_at node.slots x.slot; end = c });
+      home = node.home;
       own = None;
       pending = [];
       ended = node.ended ++ map (version_at c) node.pending;

@@ -1,12 +1,12 @@
-ghost use Rattle.std.specs.Prelude.{Option};
+ghost use Rattle.std.specs.Prelude.{Option, None};
 ghost use Rattle.row_model.specs.Good.{Range};
-ghost use Rattle.plain_node.specs.Runs.{Fits, IsSound};
+ghost use Rattle.plain_node.specs.Runs.{Fits, IsSound, IsProper};
 ghost use Rattle.std.specs.Prelude.{◌≡◌, ℕ, ◌+◌, ◌^◌, ◌<◌, ◌≤◌, length, IsOkAnd, IfOk, OnOk, IsNone, MatchOption, Some, None, reverse};
 ghost use Rattle.std.specs.Prelude.{[]};
 ghost use Rattle.row_model.specs.Good.{listed_before};
 ghost use Rattle.std.specs.Prelude.{◌∷◌, ◌++◌, map, IfSome};
 ghost use Rattle.plain_node.specs.Slots.{wrap_at, IsLeastUsed, next_xid};
-ghost use Rattle.plain_node.specs.Steps.{value_in, started, got, begun, IsOwn, Puts, version_at, ended_by, committed};
+ghost use Rattle.plain_node.specs.Steps.{value_in, opened, started, got, begun, IsOwn, Puts, version_at, ended_by, committed};
 
 use crate::slots::{SlotUse, least_used};
 use crate::versions::{Pending, Version, newest_ended, newest_pending};
@@ -22,6 +22,8 @@ pub struct Node {
     /// The highest SCN of a commit.
     pub known: Scn,
     pub slots: [SlotUse; 8],
+    /// The instance that the session is on, once it was opened.
+    pub home: Option<InstNo>,
     /// The open transaction.
     pub own: Option<Xid>,
     /// Its changes.
@@ -33,8 +35,10 @@ pub struct Node {
 impl Node {
     pub fn new(alloc: Global) -> Node
         ensures journal { result.journal ≡ [] }
+        ensures home { result.home ≡ None }
         ensures fits { Fits 0 result }
         ensures sound { (asked : ℕ → Option Range) → IsSound asked result }
+        ensures proper { IsProper result }
     {
         let never = SlotUse {
             wrap: 0,
@@ -44,6 +48,7 @@ impl Node {
             scn: Scn(0),
             known: Scn(0),
             slots: [never; 8],
+            home: None,
             own: None,
             pending: Sequence::new(alloc),
             ended: Sequence::new(alloc),
@@ -59,6 +64,14 @@ impl Node {
             Some(value) => value,
             None => newest_ended(self.ended.as_slice(), row, s).unwrap_or(Value::Absent),
         }
+    }
+
+    /// Opens the session.
+    pub fn open(&mut self, session: u16, inst: InstNo) -> Result<(), NoMemory>
+        ensures { OnOk result (self.new ≡ opened self.old session inst) }
+    {
+        self.home = Some(inst);
+        self.journal.push(Entry::Opened { session, inst })
     }
 
     /// Starts a statement at what is known.

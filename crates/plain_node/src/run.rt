@@ -6,7 +6,7 @@ ghost use Rattle.plain_node.specs.Runs.{CanRun, IsSound, RunsPlainly};
 
 use crate::node::Node;
 use rac_nums::NoMemory;
-use row_model::{Entry, Journal};
+use row_model::Journal;
 use script_text::{Item, Script, Stmt, Wave, Waves};
 use std::alloc::Global;
 
@@ -18,10 +18,7 @@ fn answer(node: &mut Node, alloc: Global, line: u32, item: &Item) -> Result<(), 
         IsSound asked node.old → IsSound asked node.new) }
 {
     match item {
-        Item::Session { session, inst } => node.journal.push(Entry::Opened {
-            session: *session,
-            inst: *inst,
-        }),
+        Item::Session { session, inst } => node.open(*session, *inst),
         Item::Stmt { session, what } => match what {
             Stmt::Get(row) => node.get(alloc, line, *session, *row),
             Stmt::Put(row, value) => node.put(line, *session, *row, *value),

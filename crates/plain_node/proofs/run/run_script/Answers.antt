@@ -8,7 +8,7 @@ use Rattle.plain_node.proofs.LineLemmas.{Asks-own}
 use Rattle.plain_node.proofs.run.run_script.Goals as goal
 
 pub run_waves-requires : goal.run_waves-requires
-run_waves-requires c = rw c.waves.ensures (0, false, c.new-node.ensures.fits, c.requires)
+run_waves-requires c = rw c.waves.ensures (0, c.new-node.ensures.fits, rw c.new-node.ensures.home c.requires)
 
 pub returns-clause-rows : goal.returns-clause-rows
 returns-clause-rows c =
