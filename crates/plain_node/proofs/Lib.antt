@@ -3,3 +3,4 @@ pub mod SoundLemmas
 pub mod StepLemmas
 pub mod LineLemmas
 pub mod FitsLemmas
+pub mod ProperLemmas

@@ -116,7 +116,7 @@ module _ (asked : ℕ → Option Range) (z : ℕ) where
       → standing x (Changed n x row found new ∷ past) ≡ Changes (record { row = row.0; found = found; new = new }) ∷ standing x past
   standing-changed past n x row found new = rw (same_xid-refl x) refl
 
-  own_changes-changed : (past : Past) (n : ℕ) (s : ℕ) (x : Xid) (row : RowNo) (found new : Value)
+  pub own_changes-changed : (past : Past) (n : ℕ) (s : ℕ) (x : Xid) (row : RowNo) (found new : Value)
       → start_of n past ≡ Some (record { session = z; s = s })
       → own_changes z (Changed n x row found new ∷ past) ≡ record { row = row.0; found = found; new = new } ∷ changes_of (standing x past)
   own_changes-changed past n s x row found new start =
@@ -191,6 +191,17 @@ module _ (asked : ℕ → Option Range) (z : ℕ) where
       by_place (inl h) = rw h.1 (ap (λ (u : SlotUse). u.wrap) (get_or-set_same slots k (record { wrap = wrap_at slots k; end = c }) never within))
       by_place (inr h) = ap (λ (u : SlotUse). u.wrap) (get_or-set_other slots k j (record { wrap = wrap_at slots k; end = c }) never h.1)
 
+  -- the commit enters the history first
+  pub history-committed : (past : Past) (n : ℕ) (x : Xid) (c : Scn) (i : InstNo) (known : ℕ) → UpTo known (history_of_past past) → known < c.0
+      → history_of_past (Acked n x c ∷ Committed x c i ∷ Marked n x c ∷ past) ≡ record { c = c.0; inst = i.0; xid = x; changes = changes_of (standing x past) } ∷ history_of_past past
+  history-committed past n x c i known below above =
+      rw (same_xid-refl x, eq-eqb c.0 c.0 refl)
+        (entered-latest (record { c = c.0; inst = i.0; xid = x; changes = changes_of (standing x past) }) known (history_of_past past) below above)
+
+  -- and the session has no own transaction any more
+  pub own-committed : (past : Past) (n : ℕ) (x : Xid) (c : Scn) (i : InstNo) → own z past ≡ Some x → own z (Acked n x c ∷ Committed x c i ∷ Marked n x c ∷ past) ≡ None
+  own-committed past n x c i is = rw (last_of-own past x is, same_xid-refl x) refl
+
   -- the own transaction commits
   pub Sound-committed : (past : Past) (old now : Parts) (n : ℕ) (x : Xid) (c : Scn) (i : InstNo)
       → old.own ≡ Some x → c.0 ≡ old.scn + 1 → now.scn ≡ c.0 → now.known ≡ c.0 → now.own ≡ None → now.pending ≡ []
@@ -226,13 +237,13 @@ module _ (asked : ℕ → Option Range) (z : ℕ) where
       le_now = let le = sound.clock in omega arith
 
       history : history_of_past (Acked n x c ∷ Committed x c i ∷ Marked n x c ∷ past) ≡ a ∷ commits
-      history = rw (same_xid-refl x, eq-eqb c.0 c.0 refl) (entered-latest a old.known commits sound.commits (let le = sound.clock in omega arith))
+      history = history-committed past n x c i old.known sound.commits (let le = sound.clock in omega arith)
 
       stand : map as_pending own_now ≡ old.pending
       stand = ap (map as_pending) (sym (own_changes-own past x (sound.own_is ∙ own_is))) ∙ sound.pending
 
       closed : own z (Acked n x c ∷ Committed x c i ∷ Marked n x c ∷ past) ≡ None
-      closed = rw (last_of-own past x (sound.own_is ∙ own_is), same_xid-refl x) refl
+      closed = own-committed past n x c i (sound.own_is ∙ own_is)
 
       same : (s : ℕ) → s ≤ old.known → changes_up_to s commits ≡ changes_up_to s (a ∷ commits)
       same s le = sym (changes_up_to-latest a s commits (let known_le = sound.clock in omega arith))
