@@ -1,6 +1,6 @@
 -- Numbers and names of transactions in a list of bytes, the highest byte first.
 use Rattle.std.specs.Prelude.{◌≡◌, ℕ, ◌+◌, ◌≤◌, ◌⊎◌, List, ◌∷◌, ◌++◌, length, take, drop, slice_index}
-use Rattle.byteorder.specs.Endian.{big_bytes, big_number}
+pub use Rattle.byteorder.specs.Endian.{big_bytes, big_number}
 use Rattle.rac_nums.specs.declared.names.Xid.{Xid}
 
 -- The bytes from place `at` are now the text, and every other byte is untouched.
