@@ -1,10 +1,8 @@
 -- Sources and sinks in memory, as contracts see them.
-use Rattle.std.specs.Prelude.{◌≡◌, ℕ, zero, suc, ◌+◌, ◌-◌, ◌^◌, ◌==◌, min, max, Bool, true, false, if◌then◌else◌, List, [], ◌∷◌, ◌++◌, length, take, drop}
+use Rattle.std.specs.Prelude.{ℕ, zero, suc, ◌+◌, ◌-◌, ◌^◌, ◌==◌, min, max, Bool, true, false, if◌then◌else◌, List, [], ◌∷◌, ◌++◌, length, take, drop}
 use Rattle.std.specs.List.{list_any}
 use Rattle.rac_io.specs.declared.source.Got.{Got}
-use Rattle.rac_io.specs.declared.source.Got.TheVariants as Got
 use Rattle.rac_io.specs.declared.sink.Put.{Put}
-use Rattle.rac_io.specs.declared.sink.Put.TheVariants as Put
 
 -- a count of 64 bits after one more, which stops at the last value
 abbrev pub count_after : ℕ → ℕ

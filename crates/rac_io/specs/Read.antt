@@ -1,5 +1,5 @@
 -- What a read does to the bytes that a source has left, where it tells them (`None` where it doesn't).
-use Rattle.std.specs.Prelude.{◌≡◌, ◌≤◌, ◌<◌, ℕ, Bool, true, false, List, [], length, take, ◌++◌, Option, IfSome, MatchBool}
+use Rattle.std.specs.Prelude.{◌≡◌, ◌≤◌, ◌<◌, ℕ, Bool, List, [], length, take, ◌++◌, Option, IfSome, MatchBool}
 use Rattle.std.specs.Io.KnownBytes.{Consumes, Keeps, IsAtEnd}
 use Rattle.rac_io.specs.declared.source.Got.{Got}
 use Rattle.rac_io.specs.declared.source.Got.TheVariants.{Bytes, End, Failed}

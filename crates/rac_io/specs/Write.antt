@@ -1,5 +1,5 @@
 -- What a write does to the bytes that a sink holds, where it tells them (`None` where it doesn't).
-use Rattle.std.specs.Prelude.{◌≡◌, ◌≤◌, ◌<◌, ℕ, List, [], length, take, Option}
+use Rattle.std.specs.Prelude.{◌≡◌, ◌≤◌, ◌<◌, ℕ, List, length, take, Option}
 use Rattle.std.specs.Io.KnownBytes.{Appends, Keeps}
 use Rattle.rac_io.specs.declared.sink.Put.{Put}
 use Rattle.rac_io.specs.declared.sink.Put.TheVariants.{Bytes, Failed}

@@ -38,9 +38,9 @@ impl<T: Drop> From<AllocFailed<T>> for ReadError {
 }
 
 /// The bytes that a source has left, up to its end, or the first `limit` of them. Fewer than `limit`
-/// are all. A limit of 0 makes no read.
+/// are all.
 ///
-/// `Fault` comes where a read failed, and what was read before it is lost.
+/// `Fault` comes where a read failed. An error loses what was read before it.
 pub fn read_limited<S: Source>(
     alloc: Global,
     source: &mut S,

@@ -3,8 +3,8 @@ ghost use Rattle.std.specs.Prelude.{◌≡◌};
 use crate::sink::{Put, Sink};
 use std::io::Write;
 
-/// A writer of `std` as a sink. Each error of the writer is a fault. It doesn't flush: what the writer
-/// took counts as written.
+/// A writer of `std` as a sink. Each error of the writer is a fault, an interruption too. It doesn't
+/// flush: what the writer took counts as written.
 #[derive(Drop)]
 pub struct StdSink<W> {
     inner: W,

@@ -3,7 +3,8 @@ ghost use Rattle.std.specs.Prelude.{◌≡◌};
 use crate::source::{Got, Source};
 use std::io::Read;
 
-/// A reader of `std` as a source. Each error of the reader is a fault.
+/// A reader of `std` as a source. Each error of the reader is a fault, an interruption
+/// too.
 #[derive(Drop)]
 pub struct StdSource<R> {
     inner: R,

@@ -1,4 +1,4 @@
-use Rattle.std.proofs.Common.{arith, ◌≤◌, vec_len}
+use Rattle.std.proofs.Common.{vec_len}
 use Rattle.std.proofs.lemmas.Result.{err_from_is_err_and}
 use Rattle.rac_io.proofs.Known.{takes_more}
 use Rattle.rac_io.proofs.read.read_limited.Goals as goal

@@ -1,5 +1,4 @@
-use Rattle.std.proofs.Common.{arith, ap, ◌∙◌, sym, ◌≤◌, ◌≡◌, length, ◌-◌, take, drop, List, ℕ}
-use Rattle.std.proofs.lemmas.Grind.{common_steps}
+use Rattle.std.proofs.Common.{arith, ap, ◌∙◌, sym, ◌≤◌, ◌≡◌, length, ◌-◌, take, drop, ℕ}
 use Rattle.std.proofs.lemmas.List.{length-take, length-drop}
 use Rattle.rac_io.specs.Memory.{SourceView}
 use Rattle.rac_io.proofs.Known.{copied_front, some_copied}
