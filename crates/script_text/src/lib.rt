@@ -2,9 +2,14 @@
 #![tactic(auto)]
 
 mod item;
+mod lines;
 mod name;
 mod rule;
+mod said;
 mod script;
+mod sessions;
+mod spelling;
+mod words;
 
 pub use item::{Item, Keep, Stmt};
 pub use name::Name;

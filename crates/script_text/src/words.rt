@@ -1,0 +1,54 @@
+ghost use Rattle.std.specs.Prelude.{◌≡◌, [], ◌∷◌, MatchOption};
+ghost use Rattle.script_text.specs.Words.{words, is_blank};
+ghost use Rattle.script_text.specs.Shapes.{HasWords};
+
+/// The words of a line, as far as a form has so many.
+#[derive(Clone, Copy)]
+pub(crate) enum Words<'a> {
+    None,
+    One(&'a [u8]),
+    Two(&'a [u8], &'a [u8]),
+    Three(&'a [u8], &'a [u8], &'a [u8]),
+    Four(&'a [u8], &'a [u8], &'a [u8], &'a [u8]),
+    More(&'a [u8]),
+}
+
+fn is_blank(byte: u8) -> bool
+    ensures { result ≡ is_blank byte }
+{
+    byte == b' ' || byte == b'\t'
+}
+
+/// The first word of a line and what follows it; `None` where there is no word.
+fn first_word(line: &[u8]) -> Option<(&[u8], &[u8])>
+    ensures { MatchOption result (words line.now ≡ []) (λ found. words line.now ≡ found.0.now ∷ words found.1.now) }
+{
+    let start = line.iter().position(|b| !is_blank(*b))?;
+    let line = &line[start..];
+    match line.iter().position(|b| is_blank(*b)) {
+        None => Some((line, &[])),
+        Some(end) => Some((&line[..end], &line[end..])),
+    }
+}
+
+/// The words of a line.
+pub(crate) fn words_of(line: &[u8]) -> Words<'_>
+    ensures { HasWords result (words line.now) }
+{
+    let Some((a, rest)) = first_word(line) else {
+        return Words::None;
+    };
+    let Some((b, rest)) = first_word(rest) else {
+        return Words::One(a);
+    };
+    let Some((c, rest)) = first_word(rest) else {
+        return Words::Two(a, b);
+    };
+    let Some((d, rest)) = first_word(rest) else {
+        return Words::Three(a, b, c);
+    };
+    match first_word(rest) {
+        None => Words::Four(a, b, c, d),
+        Some(_) => Words::More(a),
+    }
+}
