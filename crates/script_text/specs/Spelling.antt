@@ -2,7 +2,6 @@
 use Rattle.std.specs.Prelude.{ℕ, ℤ, pos, neg_ℤ, List, [], ◌∷◌, Bool, false, ◌==◌, ◌&&◌, ◌||◌, ◌-◌, ◌^◌, nat_lt, nat_le, length, take, drop, slice_index, if◌then◌else◌}
 use Rattle.std.specs.List.{list_all}
 use Rattle.std.specs.Char.{is_ascii_lowercase, is_ascii_digit}
-use Rattle.std.specs.Str.{all_ascii_digits}
 use Rattle.std.specs.Str.Parse.{digits_value, starts_with_minus}
 
 -- a name is a lower-case letter and up to 15 lower-case letters or digits
@@ -21,7 +20,7 @@ label_name label = take (length label - 1) label
 
 -- 1 to 19 digits, which may begin with zeros
 abbrev pub is_numeral : List ℕ → Bool
-is_numeral word = nat_lt 0 (length word) && (nat_le (length word) 19 && all_ascii_digits word)
+is_numeral word = nat_lt 0 (length word) && (nat_le (length word) 19 && list_all is_ascii_digit word)
 
 -- the number that digits write
 abbrev pub number : List ℕ → ℕ

@@ -1,6 +1,7 @@
 //! A script's text, read into settings and waves.
 #![tactic(auto)]
 
+mod forms;
 mod item;
 mod lines;
 mod name;

@@ -1,4 +1,4 @@
-ghost use Rattle.std.specs.Prelude.{◌≡◌, [], ◌∷◌, MatchOption};
+ghost use Rattle.std.specs.Prelude.{◌≡◌, [], ◌∷◌, not, position, MatchOption};
 ghost use Rattle.script_text.specs.Words.{words, is_blank};
 ghost use Rattle.script_text.specs.Shapes.{HasWords};
 
@@ -19,15 +19,31 @@ fn is_blank(byte: u8) -> bool
     byte == b' ' || byte == b'\t'
 }
 
+/// Where a line's first word begins.
+fn word_start(line: &[u8]) -> Option<usize>
+    ensures { result ≡ position (λ b. not (is_blank b)) line.now }
+{
+    line.iter().position(|b| !is_blank(*b))
+}
+
+/// Where the word at a line's beginning ends, if a blank follows it.
+fn word_end(line: &[u8]) -> Option<usize>
+    ensures { result ≡ position is_blank line.now }
+{
+    line.iter().position(|b| is_blank(*b))
+}
+
 /// The first word of a line and what follows it; `None` where there is no word.
 fn first_word(line: &[u8]) -> Option<(&[u8], &[u8])>
     ensures { MatchOption result (words line.now ≡ []) (λ found. words line.now ≡ found.0.now ∷ words found.1.now) }
 {
-    let start = line.iter().position(|b| !is_blank(*b))?;
+    let Some(start) = word_start(line) else {
+        return None;
+    };
     let line = &line[start..];
-    match line.iter().position(|b| is_blank(*b)) {
+    match word_end(line) {
         None => Some((line, &[])),
-        Some(end) => Some((&line[..end], &line[end..])),
+        Some(end) => Some(line.split_at(end)),
     }
 }
 
