@@ -57,7 +57,7 @@ abbrev pub with_item : Said → Item → Said
 with_item said item = record said { begun = true; wave = said.wave ++ (said.lines, item) ∷ [] }
 
 -- `instances N` sets the number of instances, before all other lines and once
-abbrev pub instances_line : Said → List ℕ → Row
+unfoldable pub instances_line : Said → List ℕ → Row
 instances_line said count = record (plain said) {
   numbers = count ∷ [];
   in_range = nat_le 1 (number count) && nat_le (number count) instance_limit;
@@ -66,7 +66,7 @@ instances_line said count = record (plain said) {
 }
 
 -- `session NAME on I` opens a session that isn't open yet on one of the instances
-abbrev pub session_line : Said → List ℕ → List ℕ → Row
+unfoldable pub session_line : Said → List ℕ → List ℕ → Row
 session_line said name inst = record (plain said) {
   names = name ∷ [];
   numbers = inst ∷ [];
@@ -79,35 +79,35 @@ session_line said name inst = record (plain said) {
 
 -- `NAME: STATEMENT` asks a statement of an open session
 abbrev pub statement_line : Said → List ℕ → Stmt → Row
-statement_line said label what = record (plain said) {
-  names = label_name label ∷ [];
-  in_session = is_open said (label_name label);
-  then_said = with_item said (items.Stmt (session_number said (label_name label)) what);
+statement_line said name what = record (plain said) {
+  names = name ∷ [];
+  in_session = is_open said name;
+  then_said = with_item said (items.Stmt (session_number said name) what);
 }
 
 -- `NAME: put K V`
-abbrev pub put_line : Said → List ℕ → List ℕ → List ℕ → Row
-put_line said label row value =
-    record (statement_line said label (statements.Put (record { 0 = number row }) (Num (signed_number value)))) {
+unfoldable pub put_line : Said → List ℕ → List ℕ → List ℕ → Row
+put_line said name row value =
+    record (statement_line said name (statements.Put (record { 0 = number row }) (Num (signed_number value)))) {
       numbers = row ∷ [];
       signed_numbers = value ∷ [];
       in_range = is_row row;
     }
 
 -- `NAME: get K`
-abbrev pub get_line : Said → List ℕ → List ℕ → Row
-get_line said label row =
-    record (statement_line said label (statements.Get (record { 0 = number row }))) {
+unfoldable pub get_line : Said → List ℕ → List ℕ → Row
+get_line said name row =
+    record (statement_line said name (statements.Get (record { 0 = number row }))) {
       numbers = row ∷ [];
       in_range = is_row row;
     }
 
 -- `NAME: commit`
-abbrev pub commit_line : Said → List ℕ → Row
-commit_line said label = statement_line said label statements.Commit
+unfoldable pub commit_line : Said → List ℕ → Row
+commit_line said name = statement_line said name statements.Commit
 
 -- `go` ends the wave
-abbrev pub go_line : Said → Row
+unfoldable pub go_line : Said → Row
 go_line said = plain (record said { begun = true; waves = said.waves ++ said.wave ∷ []; wave = [] })
 
 -- the word is this text
@@ -121,15 +121,15 @@ form_of_one said a = if is (codes "go") a then Some (go_line said) else None
 abbrev pub form_of_two : Said → List ℕ → List ℕ → Option Row
 form_of_two said a b =
     if is (codes "instances") a then Some (instances_line said b)
-    else (if is_label a && is (codes "commit") b then Some (commit_line said a) else None)
+    else (if is_label a && is (codes "commit") b then Some (commit_line said (label_name a)) else None)
 
 abbrev pub form_of_three : Said → List ℕ → List ℕ → List ℕ → Option Row
-form_of_three said a b c = if is_label a && is (codes "get") b then Some (get_line said a c) else None
+form_of_three said a b c = if is_label a && is (codes "get") b then Some (get_line said (label_name a) c) else None
 
 abbrev pub form_of_four : Said → List ℕ → List ℕ → List ℕ → List ℕ → Option Row
 form_of_four said a b c d =
     if is (codes "session") a && is (codes "on") c then Some (session_line said b d)
-    else (if is_label a && is (codes "put") b then Some (put_line said a c d) else None)
+    else (if is_label a && is (codes "put") b then Some (put_line said (label_name a) c d) else None)
 
 -- the form of a line by its words, if it has one
 abbrev pub form_of : Said → List (List ℕ) → Option Row

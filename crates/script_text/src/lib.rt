@@ -5,6 +5,7 @@ mod forms;
 mod item;
 mod lines;
 mod name;
+mod read;
 mod rule;
 mod said;
 mod script;

@@ -44,6 +44,22 @@ impl Model for Script {
 }
 
 impl Script {
+    pub(crate) fn new(
+        settings: Settings,
+        lines: u32,
+        names: Sequence<Name>,
+        waves: Waves,
+    ) -> Script
+        ensures { result ≡ record { settings = settings; lines = lines; names = names; waves = waves } }
+    {
+        Script {
+            settings,
+            lines,
+            names,
+            waves,
+        }
+    }
+
     pub fn settings(&self) -> Settings
         ensures { result ≡ self.now.settings }
     {

@@ -1,5 +1,6 @@
 ghost use Rattle.std.specs.Prelude.{◌≡◌, [], ◌∷◌, not, position, MatchOption};
 ghost use Rattle.script_text.specs.Words.{words, is_blank};
+ghost use Rattle.script_text.specs.Forms.{says_nothing};
 ghost use Rattle.script_text.specs.Shapes.{HasWords};
 
 /// The words of a line, as far as a form has so many.
@@ -10,7 +11,7 @@ pub(crate) enum Words<'a> {
     Two(&'a [u8], &'a [u8]),
     Three(&'a [u8], &'a [u8], &'a [u8]),
     Four(&'a [u8], &'a [u8], &'a [u8], &'a [u8]),
-    More(&'a [u8]),
+    More,
 }
 
 fn is_blank(byte: u8) -> bool
@@ -65,6 +66,16 @@ pub(crate) fn words_of(line: &[u8]) -> Words<'_>
     };
     match first_word(rest) {
         None => Words::Four(a, b, c, d),
-        Some(_) => Words::More(a),
+        Some(_) => Words::More,
+    }
+}
+
+/// Whether a line is empty or a comment.
+pub(crate) fn says_nothing(line: &[u8]) -> bool
+    ensures { result ≡ says_nothing (words line.now) }
+{
+    match first_word(line) {
+        None => true,
+        Some((word, _)) => matches!(word, [b'#', ..]),
     }
 }
