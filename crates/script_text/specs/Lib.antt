@@ -6,4 +6,5 @@ pub mod Forms
 pub mod Rules
 pub mod Shapes
 pub mod Reading
+pub mod Answers
 pub mod WellFormed

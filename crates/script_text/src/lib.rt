@@ -15,5 +15,6 @@ mod words;
 
 pub use item::{Item, Keep, Stmt};
 pub use name::Name;
+pub use read::{long_text_is_refused_by_its_beginning, read_script};
 pub use rule::{Rule, ScriptError};
 pub use script::{Script, Settings, Wave, Waves};

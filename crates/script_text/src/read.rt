@@ -1,10 +1,14 @@
-ghost use Rattle.std.specs.Prelude.{◌≡◌, ◌+◌, ◌≤◌, ◌<◌, length, OnOk, IfOk, Ok, Err};
+ghost use Rattle.std.specs.Prelude.{◌≡◌, ℕ, List, ◌+◌, ◌≤◌, ◌<◌, length, take, OnOk, IfOk, IfErr, IsErr, Ok, Err};
 ghost use Rattle.std.specs.List.{list_all};
 ghost use Rattle.std.specs.Str.Lines.{lines};
 ghost use Rattle.script_text.specs.Words.{words};
 ghost use Rattle.script_text.specs.Rules.{is_plain, line_read, judged_words};
-ghost use Rattle.script_text.specs.Shapes.{Takes, SaysLine, SaysAll, Answers};
-ghost use Rattle.script_text.specs.Reading.{nothing_said, lines_read, settings_of, script_of, reading};
+ghost use Rattle.script_text.specs.Shapes.{Takes, SaysLine, SaysAll};
+ghost use Rattle.script_text.specs.Answers.{Answers, IsFaultOf, IsScript, IsRefusal};
+ghost use Rattle.script_text.specs.ScriptParts.{ScriptParts};
+ghost use Rattle.script_text.specs.WellFormed.{IsWellFormed};
+ghost use Rattle.script_text.specs.Limits.{text_bytes};
+ghost use Rattle.script_text.specs.Reading.{nothing_said, lines_read, settings_of, script_of, reading, Refusal};
 
 use crate::lines::first_line;
 use crate::rule::{LineError, Rule, ScriptError};
@@ -143,4 +147,30 @@ fn read(alloc: Global, text: &[u8]) -> Result<Script, ScriptError>
     let said = say_all(alloc, text)?;
     let script = said.into_script(alloc)?;
     Ok(script)
+}
+
+/// Reads a script from its text.
+///
+/// A line is held against the rules in their order, and the first line that breaks one refuses the text.
+pub fn read_script(alloc: Global, text: &[u8]) -> Result<Script, ScriptError>
+    // What is answered is what the text says.
+    ensures read { IfOk result (λ script. reading text.now ≡ Ok script) }
+    ensures fault { IfErr result (λ error. IsFaultOf error (reading text.now)) }
+
+    // What the text says is answered, unless memory runs out.
+    ensures accepts { (parts : ScriptParts) → reading text.now ≡ Ok parts → IsScript result parts }
+    ensures refuses { (refusal : Refusal) → reading text.now ≡ Err refusal → IsRefusal result refusal }
+
+    ensures well_formed { IfOk result IsWellFormed }
+    ensures short { IfOk result (λ script. length text.now < text_bytes) }
+{
+    read(alloc, text)
+}
+
+/// A text of 2,100,000 bytes or more is refused, and as its first 2,100,000 bytes are: so nobody has to
+/// read on.
+pub fn long_text_is_refused_by_its_beginning()
+    ensures refused { (text : List ℕ) → text_bytes ≤ length text → IsErr (reading text) }
+    ensures alike { (text : List ℕ) → text_bytes ≤ length text → reading (take text_bytes text) ≡ reading text }
+{
 }
