@@ -29,17 +29,27 @@ lines_of_parts-cons : (x : List ℕ) (parts : List (List ℕ)) → 0 < length pa
 lines_of_parts-cons x [] h = absurd (omega arith)
 lines_of_parts-cons x (y ∷ more) h = refl
 
-abbrev is_line_feed : ℕ → Bool
+abbrev pub is_line_feed : ℕ → Bool
 is_line_feed b = b == 10
 
+-- a text without a line feed is one line
+pub lines-one : (text : List ℕ) → 0 < length text → length text ≤ position_or_len is_line_feed text → lines text ≡ text ∷ []
+lines-one text full h = rw (slice_split-none is_line_feed text h) (grind (arith, nat_tests))
+
+-- the first line ends at the first line feed
+pub lines-cut : (text : List ℕ) → position_or_len is_line_feed text < length text → lines text ≡ strip_carriage_return (take (position_or_len is_line_feed text) text) ∷ lines (drop (position_or_len is_line_feed text + 1) text)
+lines-cut text h =
+    let i = position_or_len is_line_feed text in
+    rw (slice_split_first is_line_feed text 0 h)
+    (lines_of_parts-cons (take i text) (slice_split is_line_feed (drop (i + 1) text)) (omega (arith, length-slice_split is_line_feed (drop (i + 1) text))))
+
 pub lines-last : (text : List ℕ) → 0 < length text → position is_line_feed text ≡ None → lines text ≡ text ∷ []
-lines-last text full h = rw (slice_split-none is_line_feed text (position-none is_line_feed text h)) (grind (arith, nat_tests))
+lines-last text full h = lines-one text full (position-none is_line_feed text h)
 
 pub lines-first : (text : List ℕ) (i : ℕ) → position is_line_feed text ≡ Some i → lines text ≡ strip_carriage_return (take i text) ∷ lines (drop (i + 1) text)
 lines-first text i h =
     let at = position-some is_line_feed text i h in
-    let parts : slice_split is_line_feed text ≡ take i text ∷ slice_split is_line_feed (drop (i + 1) text) = rw at.0 (slice_split_first is_line_feed text 0 (omega arith)) in
-    rw parts (lines_of_parts-cons (take i text) (slice_split is_line_feed (drop (i + 1) text)) (omega (arith, length-slice_split is_line_feed (drop (i + 1) text))))
+    rw at.0 (lines-cut text (omega arith))
 
 -- blanks before the words don't count
 words-blank : (b : ℕ) (line : List ℕ) → is_blank b ≡ true → words (b ∷ line) ≡ words line
