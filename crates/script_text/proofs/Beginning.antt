@@ -68,22 +68,22 @@ begins-alike said text most h k further =
     let place : position_or_len is_line_feed (take most text) ≡ i = place-within is_line_feed most text h in
     let long : length (take most text) ≡ most = length-take most text ∙ omega arith in
     let front : lines (take most text) ≡ strip_carriage_return (take i (take most text)) ∷ lines (drop (i + 1) (take most text)) =
-        let P : ℕ → Type 0 = λ n. lines (take most text) ≡ strip_carriage_return (take n (take most text)) ∷ lines (drop (n + 1) (take most text)) in
-        subst P place (lines-cut (take most text) (omega arith)) in
+    let P : ℕ → Type 0 = λ n. lines (take most text) ≡ strip_carriage_return (take n (take most text)) ∷ lines (drop (n + 1) (take most text)) in
+    subst P place (lines-cut (take most text) (omega arith)) in
     let line = strip_carriage_return (take i text) in
     let rest = drop (i + 1) text in
     let less = most - (i + 1) in
     let cut : lines (take most text) ≡ line ∷ lines (take less rest) =
-        front ∙ ap (λ xs. strip_carriage_return xs ∷ lines (drop (i + 1) (take most text))) (cut-twice i most text h k) ∙ ap (λ xs. line ∷ lines xs) (rest-cut i most text h k) in
+    front ∙ ap (λ xs. strip_carriage_return xs ∷ lines (drop (i + 1) (take most text))) (cut-twice i most text h k) ∙ ap (λ xs. line ∷ lines xs) (rest-cut i most text h k) in
     let whole_cut : lines text ≡ line ∷ lines rest = lines-cut text (omega arith) in
     let on : (next : Said) → line_read said line ≡ Ok next → lines_read next (lines (take less rest)) ≡ lines_read next (lines rest) =
-        λ next ok.
-            let short = (line_read-ok said next line ok).0 in
-            let bytes = short.bytes in
-            let few = short.lines in
-            let taken : length (take i text) ≡ i = length-take i text ∙ omega arith in
-            let left : length rest ≡ length text - (i + 1) = length-drop (i + 1) text in
-            further next rest less (omega arith) few (line_read-lines said next line ok) (omega (arith, length-strip (take i text))) (omega arith) in
+    λ next ok.
+    let short = (line_read-ok said next line ok).0 in
+    let bytes = short.bytes in
+    let few = short.lines in
+    let taken : length (take i text) ≡ i = length-take i text ∙ omega arith in
+    let left : length rest ≡ length text - (i + 1) = length-drop (i + 1) text in
+    further next rest less (omega arith) few (line_read-lines said next line ok) (omega (arith, length-strip (take i text))) (omega arith) in
     ap (λ ls. lines_read said ls) cut ∙ go_on-alike (line_read said line) (said.lines + 1) (λ next. lines_read next (lines (take less rest))) (λ next. lines_read next (lines rest)) on ∙ sym (ap (λ ls. lines_read said ls) whole_cut)
 
 -- a beginning of a line that is too long
@@ -95,14 +95,14 @@ line-alike said text most h k long =
     let front : lines (take most text) ≡ take most text ∷ [] = lines-one (take most text) (omega arith) (omega arith) in
     let first : lines_read said (lines (take most text)) ≡ go_on (line_read said (take most text)) (said.lines + 1) (λ next. Ok next) = ap (λ ls. lines_read said ls) front in
     let cut : i < length text → lines_read said (lines (take most text)) ≡ lines_read said (lines text) =
-        λ within.
-            let taken : length (take i text) ≡ i = length-take i text ∙ omega arith in
-            first ∙ long-alike said (take most text) (strip_carriage_return (take i text)) (λ next. Ok next) (λ next. lines_read next (lines (drop (i + 1) text))) (omega arith) (omega (arith, length-strip (take i text)))
-            ∙ sym (ap (λ ls. lines_read said ls) (lines-cut text within)) in
+    λ within.
+    let taken : length (take i text) ≡ i = length-take i text ∙ omega arith in
+    first ∙ long-alike said (take most text) (strip_carriage_return (take i text)) (λ next. Ok next) (λ next. lines_read next (lines (drop (i + 1) text))) (omega arith) (omega (arith, length-strip (take i text)))
+    ∙ sym (ap (λ ls. lines_read said ls) (lines-cut text within)) in
     let one : length text ≤ i → lines_read said (lines (take most text)) ≡ lines_read said (lines text) =
-        λ past.
-            first ∙ long-alike said (take most text) text (λ next. Ok next) (λ next. Ok next) (omega arith) (omega arith)
-            ∙ sym (ap (λ ls. lines_read said ls) (lines-one text (omega arith) past)) in
+    λ past.
+    first ∙ long-alike said (take most text) text (λ next. Ok next) (λ next. Ok next) (omega arith) (omega arith)
+    ∙ sym (ap (λ ls. lines_read said ls) (lines-one text (omega arith) past)) in
     ⊎_elim cut one (cases_lt i (length text))
 
 alike : (fuel : ℕ) (said : Said) (text : List ℕ) (most : ℕ) → length text < fuel → said.lines ≤ 10000 → 2020300 ≤ most + 202 * said.lines → most ≤ length text → lines_read said (lines (take most text)) ≡ lines_read said (lines text)

@@ -73,8 +73,8 @@ session_line said name inst = record (plain said) {
   in_range = nat_lt (number inst) (instances_so_far said) && nat_lt (length said.sessions) session_limit;
   in_session = not (is_open said name);
   then_said =
-    with_item (record said { sessions = said.sessions ++ name ∷ [] })
-    (items.Session (length said.sessions) (record { 0 = number inst }));
+      with_item (record said { sessions = said.sessions ++ name ∷ [] })
+      (items.Session (length said.sessions) (record { 0 = number inst }));
 }
 
 -- `NAME: STATEMENT` asks a statement of an open session

@@ -194,7 +194,14 @@ impl Said {
     }
 
     /// The forms of four words.
-    pub fn take_four(&mut self, alloc: Global, a: &[u8], b: &[u8], c: &[u8], d: &[u8]) -> Result<(), LineError>
+    pub fn take_four(
+        &mut self,
+        alloc: Global,
+        a: &[u8],
+        b: &[u8],
+        c: &[u8],
+        d: &[u8],
+    ) -> Result<(), LineError>
         ensures { Takes result self.new (judged_form (form_of_four self.old a.now b.now c.now d.now)) }
     {
         if a == b"session".as_slice() && c == b"on".as_slice() {

@@ -18,3 +18,6 @@ pub use name::Name;
 pub use read::{long_text_is_refused_by_its_beginning, read_script};
 pub use rule::{Rule, ScriptError};
 pub use script::{Script, Settings, Wave, Waves};
+
+#[cfg(test)]
+mod tests;

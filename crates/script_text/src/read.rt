@@ -14,7 +14,7 @@ use crate::lines::first_line;
 use crate::rule::{LineError, Rule, ScriptError};
 use crate::said::Said;
 use crate::script::{Script, Settings};
-use crate::words::{says_nothing, words_of, Words};
+use crate::words::{Words, says_nothing, words_of};
 use rac_nums::NoMemory;
 use std::alloc::Global;
 
@@ -172,5 +172,4 @@ pub fn read_script(alloc: Global, text: &[u8]) -> Result<Script, ScriptError>
 pub fn long_text_is_refused_by_its_beginning()
     ensures refused { (text : List ℕ) → text_bytes ≤ length text → IsErr (reading text) }
     ensures alike { (text : List ℕ) → text_bytes ≤ length text → reading (take text_bytes text) ≡ reading text }
-{
-}
+{}

@@ -32,9 +32,7 @@ fn is_name(word: &[u8]) -> bool
     match word {
         [] => false,
         [first, others @ ..] => {
-            first.is_ascii_lowercase()
-                && others.len() <= NAME_TAIL
-                && are_letters_or_digits(others)
+            first.is_ascii_lowercase() && others.len() <= NAME_TAIL && are_letters_or_digits(others)
         }
     }
 }
