@@ -15,10 +15,10 @@ use Rattle.script_text.specs.ScriptParts.{ScriptParts}
 use Rattle.script_text.specs.Words.{words}
 use Rattle.script_text.specs.Spelling.{number}
 use Rattle.script_text.specs.Forms.{Row, with_item, is_open, session_number, instances_so_far, go_line, instances_line, session_line, commit_line, get_line, put_line}
-use Rattle.script_text.specs.Limits.{session_limit}
+use Rattle.script_text.specs.Limits.{instance_limit, session_limit}
 use Rattle.script_text.specs.Rules.{counted, line_read}
 use Rattle.script_text.specs.Reading.{Refusal, joined, go_on, lines_read, nothing_said, script_of, whole, reading}
-use Rattle.script_text.specs.WellFormed.{RiseWithin, HasRowsBelow, IsItemWithin, AreItemsWithin, IsWellFormed}
+use Rattle.script_text.specs.WellFormed.{RiseWithin, HasRowsBelow, IsItemWithin, AreItemsWithin, IsOpened, opened_after, AreOpened, IsReadStmt, IsRead, AreRead, IsWellFormed}
 use Rattle.script_text.proofs.LineCases.{IsKept, line_read-ok, line_read-lines, of_words}
 
 -- the items of the waves that were ended and of the one that wasn't
@@ -55,20 +55,51 @@ AreItemsWithin-push : (sessions instances rows line : ℕ) (xs : List (ℕ × It
 AreItemsWithin-push sessions instances rows line [] item h here = (here, tt)
 AreItemsWithin-push sessions instances rows line (x ∷ xs) item h here = (h.0, AreItemsWithin-push sessions instances rows line xs item h.1 here)
 
+-- how many sessions are opened after all items
+abbrev opened_all : ℕ → List (ℕ × Item) → ℕ
+opened_all opened [] = opened
+opened_all opened (item ∷ more) = opened_all (opened_after opened item.1) more
+
+AreOpened-push : (opened line : ℕ) (xs : List (ℕ × Item)) (item : Item) → AreOpened opened xs → IsOpened (opened_all opened xs) item → AreOpened opened (xs ++ (line, item) ∷ [])
+AreOpened-push opened line [] item h here = (here, tt)
+AreOpened-push opened line (x ∷ xs) item h here = (h.0, AreOpened-push (opened_after opened x.1) line xs item h.1 here)
+
+opened_all-push : (opened line : ℕ) (xs : List (ℕ × Item)) (item : Item) → opened_all opened (xs ++ (line, item) ∷ []) ≡ opened_after (opened_all opened xs) item
+opened_all-push opened line [] item = refl
+opened_all-push opened line (x ∷ xs) item = opened_all-push (opened_after opened x.1) line xs item
+
+AreRead-push : (line : ℕ) (xs : List (ℕ × Item)) (item : Item) → AreRead xs → IsRead item → AreRead (xs ++ (line, item) ∷ [])
+AreRead-push line [] item h here = (here, tt)
+AreRead-push line (x ∷ xs) item h here = (h.0, AreRead-push line xs item h.1 here)
+
 -- the items are numbered up to this line, and what they name is there
 record IsSound (line : ℕ) (said : Said) : Type 0 where
   rise : RiseWithin 0 line (items_so_far said)
   within : AreItemsWithin (length said.sessions) (instances_so_far said) 32 (items_so_far said)
   begins : said.begun ≡ false → items_so_far said ≡ []
+  opened : AreOpened 0 (items_so_far said)
+  count : opened_all 0 (items_so_far said) ≡ length said.sessions
+  read : AreRead (items_so_far said)
+  few : length said.sessions ≤ 1
+  one : instances_so_far said ≤ 1
 
--- an item is added at a later line
-with_item-sound : (line : ℕ) (said : Said) (item : Item) → line < said.lines → IsSound line said → IsItemWithin (length said.sessions) (instances_so_far said) 32 item → IsSound said.lines (with_item said item)
-with_item-sound line said item later sound here =
-    let pushed : items_so_far (with_item said item) ≡ items_so_far said ++ (said.lines, item) ∷ [] = sym (append_assoc (joined said.waves) said.wave ((said.lines, item) ∷ [])) in
+-- an item is added at a later line, by which sessions are as many as they are said to be
+with_item-sound : (line : ℕ) (said : Said) (sessions : List (List ℕ)) (item : Item) → line < said.lines → IsSound line said
+    → length said.sessions ≤ length sessions → length sessions ≤ 1
+    → IsItemWithin (length sessions) (instances_so_far said) 32 item → IsOpened (length said.sessions) item → opened_after (length said.sessions) item ≡ length sessions → IsRead item
+    → IsSound said.lines (with_item (record said { sessions = sessions }) item)
+with_item-sound line said sessions item later sound more few here is_opened counts is_read =
+    let pushed : items_so_far (with_item (record said { sessions = sessions }) item) ≡ items_so_far said ++ (said.lines, item) ∷ [] = sym (append_assoc (joined said.waves) said.wave ((said.lines, item) ∷ [])) in
     record {
       rise = rw pushed (RiseWithin-push 0 line said.lines (items_so_far said) item (omega arith) later sound.rise);
-      within = rw pushed (AreItemsWithin-push (length said.sessions) (instances_so_far said) 32 said.lines (items_so_far said) item sound.within here);
+      within = rw pushed (AreItemsWithin-push (length sessions) (instances_so_far said) 32 said.lines (items_so_far said) item
+          (AreItemsWithin-more (length said.sessions) (length sessions) (instances_so_far said) 32 (items_so_far said) more sound.within) here);
       begins = λ h. absurd (cc);
+      opened = rw pushed (AreOpened-push 0 said.lines (items_so_far said) item sound.opened (rw sound.count is_opened));
+      count = rw pushed (opened_all-push 0 said.lines (items_so_far said) item ∙ (ap (λ n. opened_after n item) sound.count ∙ counts));
+      read = rw pushed (AreRead-push said.lines (items_so_far said) item sound.read is_read);
+      few = few;
+      one = sound.one;
     }
 
 open_below : (names : List (List ℕ)) (name : List ℕ) → list_any (bytes_eq name) names ≡ true → position_or_len (bytes_eq name) names < length names
@@ -100,6 +131,11 @@ module _ (line : ℕ) (said next : Said) (later : line < said.lines) (sound : Is
         rise = rw same (RiseWithin-more 0 line said.lines (items_so_far said) (omega arith) sound.rise);
         within = rw same sound.within;
         begins = λ h. absurd (cc);
+        opened = rw same sound.opened;
+        count = rw same sound.count;
+        read = rw same sound.read;
+        few = sound.few;
+        one = sound.one;
       })
 
   instances-sound : (count : List ℕ) → IsKept (instances_line said count) next → IsSound said.lines next
@@ -111,51 +147,55 @@ module _ (line : ℕ) (said next : Said) (later : line < said.lines) (sound : Is
         rise = rw empty tt;
         within = rw empty tt;
         begins = λ h. empty;
+        opened = rw empty tt;
+        count = sound.count;
+        read = rw empty tt;
+        few = sound.few;
+        one = search (rules, nat_tests, and_right (nat_le 1 (number count)) (nat_le (number count) instance_limit) kept.in_range);
       })
 
   session-sound : (name inst : List ℕ) → IsKept (session_line said name inst) next → IsSound said.lines next
   unfolding session_line
   session-sound name inst kept =
-      let opened : Said = record said { sessions = said.sessions ++ name ∷ [] } in
-      let more : length opened.sessions ≡ length said.sessions + 1 = length-append said.sessions (name ∷ []) in
+      let sessions : List (List ℕ) = said.sessions ++ name ∷ [] in
+      let more : length sessions ≡ length said.sessions + 1 = length-append said.sessions (name ∷ []) in
       let range : nat_lt (number inst) (instances_so_far said) ≡ true = and_left (nat_lt (number inst) (instances_so_far said)) (nat_lt (length said.sessions) session_limit) kept.in_range in
-      let below : number inst < instances_so_far said = search (rules, nat_tests) in
+      let room : nat_lt (length said.sessions) session_limit ≡ true = and_right (nat_lt (number inst) (instances_so_far said)) (nat_lt (length said.sessions) session_limit) kept.in_range in
+      let below : number inst < instances_so_far said = search (rules, nat_tests, range) in
+      let first : length said.sessions < 1 = search (rules, nat_tests, room) in
       subst (IsSound said.lines) kept.next_is
-      (with_item-sound line opened (items.Session (length said.sessions) (record { 0 = number inst })) later
-      (record {
-        rise = sound.rise;
-        within = AreItemsWithin-more (length said.sessions) (length opened.sessions) (instances_so_far said) 32 (items_so_far said) (omega arith) sound.within;
-        begins = sound.begins;
-      })
-      (omega arith, below))
+      (with_item-sound line said sessions (items.Session (length said.sessions) (record { 0 = number inst })) later sound (omega arith) (omega arith)
+      (omega arith, below) refl (sym more) tt)
 
-  statement-sound : (name : List ℕ) (what : Stmt) → is_open said name ≡ true → HasRowsBelow 32 what → IsSound said.lines (with_item said (items.Stmt (session_number said name) what))
-  statement-sound name what there rows = with_item-sound line said (items.Stmt (session_number said name) what) later sound (open_below said.sessions name there, rows)
+  statement-sound : (name : List ℕ) (what : Stmt) → is_open said name ≡ true → HasRowsBelow 32 what → IsReadStmt what → IsSound said.lines (with_item said (items.Stmt (session_number said name) what))
+  statement-sound name what there rows is_read =
+      with_item-sound line said said.sessions (items.Stmt (session_number said name) what) later sound (omega arith) sound.few
+      (open_below said.sessions name there, rows) (open_below said.sessions name there) refl is_read
 
   commit-sound : (name : List ℕ) → IsKept (commit_line said name) next → IsSound said.lines next
   unfolding commit_line
-  commit-sound name kept = subst (IsSound said.lines) kept.next_is (statement-sound name statements.Commit kept.in_session tt)
+  commit-sound name kept = subst (IsSound said.lines) kept.next_is (statement-sound name statements.Commit kept.in_session tt tt)
 
   get-sound : (name row : List ℕ) → IsKept (get_line said name row) next → IsSound said.lines next
   unfolding get_line
   get-sound name row kept =
       let below : number row < 32 = search (rules, nat_tests, kept.in_range) in
-      subst (IsSound said.lines) kept.next_is (statement-sound name _ kept.in_session below)
+      subst (IsSound said.lines) kept.next_is (statement-sound name _ kept.in_session below tt)
 
   put-sound : (name row value : List ℕ) → IsKept (put_line said name row value) next → IsSound said.lines next
   unfolding put_line
   put-sound name row value kept =
       let below : number row < 32 = search (rules, nat_tests, kept.in_range) in
-      subst (IsSound said.lines) kept.next_is (statement-sound name _ kept.in_session below)
+      subst (IsSound said.lines) kept.next_is (statement-sound name _ kept.in_session below tt)
 
 line-sound : (said next : Said) (line : List ℕ) → IsSound said.lines said → line_read said line ≡ Ok next → IsSound next.lines next
 line-sound said next line sound h =
-    let here : IsSound said.lines (counted said) = record { rise = sound.rise; within = sound.within; begins = sound.begins } in
+    let here : IsSound said.lines (counted said) = record { rise = sound.rise; within = sound.within; begins = sound.begins; opened = sound.opened; count = sound.count; read = sound.read; few = sound.few; one = sound.one } in
     let later : said.lines < said.lines + 1 = omega arith in
     let P : ℕ → Type 0 = λ n. IsSound n next in
     subst P (sym (line_read-lines said next line h))
     (of_words (IsSound (said.lines + 1)) (counted said) next
-    (record { rise = RiseWithin-more 0 said.lines (said.lines + 1) (items_so_far said) (omega arith) sound.rise; within = sound.within; begins = sound.begins })
+    (record { rise = RiseWithin-more 0 said.lines (said.lines + 1) (items_so_far said) (omega arith) sound.rise; within = sound.within; begins = sound.begins; opened = sound.opened; count = sound.count; read = sound.read; few = sound.few; one = sound.one })
     (record {
       go = go-sound said.lines (counted said) next later here;
       instances = instances-sound said.lines (counted said) next later here;
@@ -176,6 +216,14 @@ lines-sound (line ∷ ls) said final sound h =
     let next = go_on-ok (line_read said line) (said.lines + 1) (λ s. lines_read s ls) final h in
     lines-sound ls next.0 final (line-sound said next.0 line sound next.1) next.2
 
+lines-few : (ls : List (List ℕ)) (said final : Said) → said.lines ≤ 10000 → lines_read said ls ≡ Ok final → final.lines ≤ 10000
+lines-few [] said final few h = let e : said ≡ final = cc in subst (λ s. s.lines ≤ 10000) e few
+lines-few (line ∷ ls) said final few h =
+    let next = go_on-ok (line_read said line) (said.lines + 1) (λ s. lines_read s ls) final h in
+    let short = (line_read-ok said next.0 line next.1).0.lines in
+    let counts = line_read-lines said next.0 line next.1 in
+    lines-few ls next.0 final (omega arith) next.2
+
 pub whole-ok : (read : Result Said Refusal) (parts : ScriptParts) → whole read ≡ Ok parts → (final : Said) × (read ≡ Ok final) × (script_of final ≡ parts)
 whole-ok (Ok final) parts h = let e : script_of final ≡ parts = cc in (final, refl, e)
 whole-ok (Err refusal) parts h = absurd (cc)
@@ -185,6 +233,6 @@ pub reading-well_formed : (text : List ℕ) (parts : ScriptParts) → reading te
 unfolding reading
 reading-well_formed text parts h =
     let read = whole-ok (lines_read nothing_said (lines text)) parts h in
-    let sound = lines-sound (lines text) nothing_said read.0 (record { rise = tt; within = tt; begins = λ _. refl }) read.1 in
+    let sound = lines-sound (lines text) nothing_said read.0 (record { rise = tt; within = tt; begins = λ _. refl; opened = tt; count = refl; read = tt; few = omega arith; one = omega arith }) read.1 in
     let all : joined (read.0.waves ++ read.0.wave ∷ []) ≡ items_so_far read.0 = joined-push read.0.waves read.0.wave in
-    subst IsWellFormed read.2 (record { lines_rise = rw all sound.rise; items_within = rw all sound.within })
+    subst IsWellFormed read.2 (record { lines_rise = rw all sound.rise; items_within = rw all sound.within; items_opened = rw all sound.opened; items_read = rw all sound.read; lines_few = lines-few (lines text) nothing_said read.0 (omega arith) read.1; instances_few = sound.one; sessions_few = sound.few })
