@@ -1,14 +1,21 @@
 -- Lists of lines: the next one, and what each asks.
 use Rattle.std.specs.Prelude.{if◌then◌else◌}
-use Rattle.std.proofs.Common.{◌≡◌, ◌∙◌, ◌≢◌, ℕ, zero, suc, ◌+◌, ◌<◌, List, [], ◌∷◌, ◌++◌, Option, Some, None, drop, length, get_or, refl, ap, sym, arith, add-one, Bool, true, false, ◌==◌, cond}
+use Rattle.std.proofs.Common.{◌≡◌, ◌∙◌, ◌≢◌, ℕ, zero, suc, ◌+◌, ◌<◌, List, [], ◌∷◌, ◌++◌, Option, Some, None, drop, length, get_or, refl, ap, sym, arith, add-one, Bool, true, false, ◌==◌, cond, ◌≤◌, ◌^◌, ◌*◌, nat_lt}
 use Rattle.std.proofs.Math.Seq.{drop-cons}
 use Rattle.std.proofs.lemmas.List.{append_assoc}
-use Rattle.std.proofs.lemmas.Bool.{eq-eqb, ne_eqb}
+use Rattle.std.proofs.lemmas.Bool.{eq-eqb, ne_eqb, le-ltb, lt-ltb}
 use Rattle.row_model.specs.Good.{Range}
 use Rattle.script_text.specs.declared.item.Item.{Item}
 use Rattle.plain_node.specs.declared.node.Node.{Node}
-use Rattle.plain_node.specs.Asked.{range_asked, items_of, asked_by, Asks}
-use Rattle.plain_node.specs.Runs.{RunsPlainly, opens}
+use Rattle.script_text.specs.declared.item.Item.TheVariants.{Session, CrashAfter, CrashMark, Start, Remaster, Checkpoint, Hold}
+use Rattle.script_text.specs.declared.item.Item.TheVariants.{Stmt as Statement}
+use Rattle.script_text.specs.ScriptParts.{ScriptParts}
+use Rattle.script_text.specs.Reading.{item_in, items_of}
+use Rattle.script_text.specs.Asked.{range_asked}
+use Rattle.script_text.specs.WellFormed.{RiseWithin, IsItemWithin, AreItemsWithin, IsOpened, opened_after, AreOpened, IsRead, AreRead, IsWellFormed}
+use Rattle.std.specs.Option.{option_and_then}
+use Rattle.plain_node.specs.Asked.{Asks}
+use Rattle.plain_node.specs.Runs.{RunsPlainly, IsPlain, opens}
 
 -- the item that stands first in what is left
 pub drop-item : {A : Type 0} (xs : List A) (i : ℕ) (x : A) → i < length xs → x ≡ get_or xs i x → drop i xs ≡ x ∷ drop (i + 1) xs
@@ -28,19 +35,56 @@ module _ (asked : ℕ → Option Range) where
   Asks-back [] more asks = asks
   Asks-back (line ∷ lines) more asks = Asks-back lines more asks.1
 
+-- the rows that a line asks for, by a list of lines
+abbrev look : List (ℕ × Item) → ℕ → Option Range
+look lines n = option_and_then range_asked (item_in lines n)
+
 -- what lines of later numbers ask doesn't depend on an earlier line
-Asks-later : (line : ℕ × Item) (asked : ℕ → Option Range) (last : ℕ) (opened : Bool) (lines : List (ℕ × Item))
-    → line.0 < last + 1 → RunsPlainly last opened lines → Asks asked lines → Asks (λ n. if n == line.0 then range_asked line.1 else asked n) lines
-Asks-later line asked last opened [] before runs asks = tt
-Asks-later line asked last opened (next ∷ lines) before runs asks = (
-  rw (ne_eqb next.0 line.0 (λ e. let h = runs.0 in omega arith)) asks.0,
-  Asks-later line asked next.0 (opens opened next.1) lines (let h = runs.0 in omega arith) runs.3 asks.1,
+Asks-later : (line : ℕ × Item) (all : List (ℕ × Item)) (last : ℕ) (opened : Bool) (lines : List (ℕ × Item))
+    → line.0 < last + 1 → RunsPlainly last opened lines → Asks (look all) lines → Asks (look (line ∷ all)) lines
+Asks-later line all last opened [] before runs asks = tt
+Asks-later line all last opened (next ∷ lines) before runs asks = (
+  rw (ne_eqb line.0 next.0 (λ e. let h = runs.0 in omega arith)) asks.0,
+  Asks-later line all next.0 (opens opened next.1) lines (let h = runs.0 in omega arith) runs.3 asks.1,
 )
 
--- each line of a script asks what the script's look-up says
-pub Asks-own : (last : ℕ) (opened : Bool) (lines : List (ℕ × Item)) → RunsPlainly last opened lines → Asks (asked_by lines) lines
+-- each line asks what the look-up says
+pub Asks-own : (last : ℕ) (opened : Bool) (lines : List (ℕ × Item)) → RunsPlainly last opened lines → Asks (look lines) lines
 Asks-own last opened [] runs = tt
 Asks-own last opened (line ∷ lines) runs = (
   rw (eq-eqb line.0 line.0 refl) refl,
-  Asks-later line (asked_by lines) line.0 (opens opened line.1) lines (omega arith) runs.3 (Asks-own line.0 (opens opened line.1) lines runs.3),
+  Asks-later line lines line.0 (opens opened line.1) lines (omega arith) runs.3 (Asks-own line.0 (opens opened line.1) lines runs.3),
 )
+
+module _ (most sessions instances rows : ℕ) (numbers : most < 2 ^ 32) (few : sessions ≤ 1) (one : instances ≤ 1) where
+  plain-item : (opened : ℕ) (item : Item) → IsItemWithin sessions instances rows item → IsOpened opened item → IsRead item → IsPlain (nat_lt 0 opened) item
+  plain-item opened (Session session inst) within is read =
+      (let h = within.0 in omega arith, (let h = within.1 in omega arith), le-ltb 0 opened (let h = within.0 in omega arith))
+  plain-item opened (Statement session what) within is read =
+      (let h = within.0 in omega arith, lt-ltb 0 opened (omega arith), read)
+  plain-item opened (CrashAfter inst steps keep) within is read = read
+  plain-item opened (CrashMark inst keep) within is read = read
+  plain-item opened (Start inst) within is read = read
+  plain-item opened (Remaster bucket to) within is read = read
+  plain-item opened (Checkpoint inst) within is read = read
+  plain-item opened (Hold reader until) within is read = read
+
+  opens-after : (opened : ℕ) (item : Item) → nat_lt 0 (opened_after opened item) ≡ opens (nat_lt 0 opened) item
+  opens-after opened (Session session inst) = lt-ltb 0 (opened + 1) (omega arith)
+  opens-after opened _ = refl
+
+  -- the lines of a well-formed script are lines that the node knows
+  pub plain-lines : (last opened : ℕ) (lines : List (ℕ × Item)) → RiseWithin last most lines → AreItemsWithin sessions instances rows lines
+      → AreOpened opened lines → AreRead lines → RunsPlainly last (nat_lt 0 opened) lines
+  plain-lines last opened [] rise within is read = tt
+  plain-lines last opened (line ∷ lines) rise within is read = (
+    rise.0,
+    (let h = rise.1 in omega arith),
+    plain-item opened line.1 within.0 is.0 read.0,
+    rw (← opens-after opened line.1) (plain-lines line.0 (opened_after opened line.1) lines rise.2 within.1 is.1 read.1),
+  )
+
+pub plain-script : (parts : ScriptParts) → IsWellFormed parts → RunsPlainly 0 false (items_of parts)
+plain-script parts well =
+    plain-lines parts.lines (length parts.names) parts.settings.instances (8 * parts.settings.blocks) (let h = well.lines_few in omega arith) well.sessions_few well.instances_few
+    0 0 (items_of parts) well.lines_rise well.items_within well.items_opened well.items_read

@@ -3,23 +3,15 @@ use Rattle.std.specs.Prelude.{◌≡◌, ℕ, ◌^◌, ◌<◌, ◌≤◌, List,
 use Rattle.row_model.specs.Good.{Range}
 use Rattle.script_text.specs.declared.item.Item.{Item}
 use Rattle.script_text.specs.declared.item.Item.TheVariants.{Session, Stmt as StmtItem}
-use Rattle.script_text.specs.declared.item.Stmt.{Stmt}
-use Rattle.script_text.specs.declared.item.Stmt.TheVariants.{Get, Put, Commit}
+use Rattle.script_text.specs.WellFormed.{IsReadStmt}
 use Rattle.plain_node.specs.declared.node.Node.{Node}
 use Rattle.plain_node.specs.Slots.{wrap_at}
 use Rattle.plain_node.specs.Sound.{Sound, Proper, parts_of}
 
--- a statement that the node knows
-abbrev pub IsKnown : Stmt → Type 0
-IsKnown (Get row) = Unit {0}
-IsKnown (Put row value) = Unit {0}
-IsKnown Commit = Unit {0}
-IsKnown _ = ⊥
-
 -- a line that the node knows, with its one session opened before or not
 abbrev pub IsPlain : Bool → Item → Type 0
 IsPlain opened (Session session inst) = (session ≡ 0) × (inst.0 ≡ 0) × (opened ≡ false)
-IsPlain opened (StmtItem session what) = (session ≡ 0) × (opened ≡ true) × IsKnown what
+IsPlain opened (StmtItem session what) = (session ≡ 0) × (opened ≡ true) × IsReadStmt what
 IsPlain opened _ = ⊥
 
 -- whether the session is opened after a line

@@ -1,7 +1,11 @@
 ghost use Rattle.std.specs.Prelude.{◌≡◌, ℕ, List, ◌∷◌, ◌++◌, Option, OnOk, IfOk, false};
 ghost use Rattle.script_text.specs.declared.item.Item.{Item};
 ghost use Rattle.row_model.specs.Good.{Range, GoodRows, GoodFound, GoodCommits, GoodAcknowledgements, GoodStarts, GoodRowLocks, GoodReplay};
-ghost use Rattle.plain_node.specs.Asked.{range_asked, items_of, asked_by, Asks};
+ghost use Rattle.script_text.specs.ScriptParts.{ScriptParts};
+ghost use Rattle.script_text.specs.Reading.{joined, items_of};
+ghost use Rattle.script_text.specs.WellFormed.{IsWellFormed};
+ghost use Rattle.script_text.specs.Asked.{range_asked, asked};
+ghost use Rattle.plain_node.specs.Asked.{Asks};
 ghost use Rattle.plain_node.specs.Runs.{CanRun, IsSound, IsProper, RunsPlainly};
 
 use crate::node::Node;
@@ -14,9 +18,9 @@ use std::alloc::Global;
 fn answer(node: &mut Node, alloc: Global, line: u32, item: &Item) -> Result<(), NoMemory>
     requires { (more : List (ℕ × Item)) × CanRun node.old ((line, item.now) ∷ more) }
     ensures runs { OnOk result ((more : List (ℕ × Item)) → CanRun node.old ((line, item.now) ∷ more) → CanRun node.new more) }
-    ensures sound { OnOk result ((asked : ℕ → Option Range) → asked line ≡ range_asked item.now →
-        IsSound asked node.old → IsSound asked node.new) }
-    ensures proper { OnOk result ((asked : ℕ → Option Range) → IsSound asked node.old → IsProper node.old → IsProper node.new) }
+    ensures sound { OnOk result ((rows : ℕ → Option Range) → rows line ≡ range_asked item.now →
+        IsSound rows node.old → IsSound rows node.new) }
+    ensures proper { OnOk result ((rows : ℕ → Option Range) → IsSound rows node.old → IsProper node.old → IsProper node.new) }
 {
     match item {
         Item::Session { session, inst } => node.open(*session, *inst),
@@ -45,8 +49,8 @@ fn answer(node: &mut Node, alloc: Global, line: u32, item: &Item) -> Result<(), 
 fn run_wave(node: &mut Node, alloc: Global, wave: &Wave) -> Result<(), NoMemory>
     requires { (more : List (ℕ × Item)) × CanRun node.old (wave.now ++ more) }
     ensures runs { OnOk result ((more : List (ℕ × Item)) → CanRun node.old (wave.now ++ more) → CanRun node.new more) }
-    ensures sound { OnOk result ((asked : ℕ → Option Range) → Asks asked wave.now →
-        IsSound asked node.old → IsProper node.old → IsSound asked node.new × IsProper node.new) }
+    ensures sound { OnOk result ((rows : ℕ → Option Range) → Asks rows wave.now →
+        IsSound rows node.old → IsProper node.old → IsSound rows node.new × IsProper node.new) }
 {
     for line in wave.as_slice() {
         answer(node, alloc, line.0, &line.1)?;
@@ -56,9 +60,9 @@ fn run_wave(node: &mut Node, alloc: Global, wave: &Wave) -> Result<(), NoMemory>
 
 /// Runs the waves in order.
 fn run_waves(node: &mut Node, alloc: Global, waves: &Waves) -> Result<(), NoMemory>
-    requires { CanRun node.old (items_of waves.now) }
-    ensures sound { OnOk result ((asked : ℕ → Option Range) → Asks asked (items_of waves.now) →
-        IsSound asked node.old → IsProper node.old → IsSound asked node.new × IsProper node.new) }
+    requires { CanRun node.old (joined waves.now) }
+    ensures sound { OnOk result ((rows : ℕ → Option Range) → Asks rows (joined waves.now) →
+        IsSound rows node.old → IsProper node.old → IsSound rows node.new × IsProper node.new) }
 {
     for wave in waves.as_slice() {
         run_wave(node, alloc, wave)?;
@@ -68,8 +72,8 @@ fn run_waves(node: &mut Node, alloc: Global, waves: &Waves) -> Result<(), NoMemo
 
 /// Runs a script on a new node.
 fn run_node(alloc: Global, script: &Script) -> Result<Node, NoMemory>
-    requires { RunsPlainly 0 false (items_of script.now.waves) }
-    ensures sound { IfOk result (IsSound (asked_by (items_of script.now.waves))) }
+    requires { IsWellFormed script.now }
+    ensures sound { IfOk result (IsSound (asked script.now)) }
     ensures proper { IfOk result IsProper }
 {
     let mut node = Node::new(alloc);
@@ -79,9 +83,9 @@ fn run_node(alloc: Global, script: &Script) -> Result<Node, NoMemory>
 
 /// Runs a script, and gives the journal of the run.
 pub fn run_script(alloc: Global, script: &Script) -> Result<Journal, NoMemory>
-    requires { RunsPlainly 0 false (items_of script.now.waves) }
+    requires { IsWellFormed script.now }
 
-    ensures rows { IfOk result (GoodRows (asked_by (items_of script.now.waves))) }
+    ensures rows { IfOk result (GoodRows (asked script.now)) }
     ensures found { IfOk result GoodFound }
     ensures commits { IfOk result GoodCommits }
     ensures acknowledgements { IfOk result GoodAcknowledgements }

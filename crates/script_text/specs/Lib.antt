@@ -8,3 +8,4 @@ pub mod Shapes
 pub mod Reading
 pub mod Answers
 pub mod WellFormed
+pub mod Asked

@@ -2,7 +2,7 @@
 use Rattle.std.proofs.Common.{◌≡◌, ◌∙◌, ap, subst, Option, ℕ}
 use Rattle.std.proofs.lemmas.Result.{on_ok_weaker}
 use Rattle.row_model.specs.Good.{Range}
-use Rattle.plain_node.specs.Asked.{range_asked, range_of}
+use Rattle.script_text.specs.Asked.{range_asked, range_of}
 use Rattle.plain_node.proofs.StepLemmas.{IsSound-got, IsSound-put, IsSound-committed, IsProper-opened, IsProper-got, IsProper-put, IsProper-committed}
 use Rattle.plain_node.proofs.FitsLemmas.{Fits-opened, Fits-got, Fits-put, Fits-committed}
 use Rattle.plain_node.proofs.run.answer.Goals as goal

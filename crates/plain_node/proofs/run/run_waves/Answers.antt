@@ -2,7 +2,8 @@
 use Rattle.script_text.specs.declared.item.Item.{Item}
 use Rattle.std.proofs.Common.{ℕ, List, get_or, ◌∙◌, ◌++◌, ◌+◌, ◌≤◌, drop, length, rules, ap, arith}
 use Rattle.std.proofs.lemmas.Result.{on_ok_weaker}
-use Rattle.plain_node.specs.Asked.{Asks, items_of}
+use Rattle.script_text.specs.Reading.{joined}
+use Rattle.plain_node.specs.Asked.{Asks}
 use Rattle.plain_node.proofs.LineLemmas.{drop-item, Asks-front, Asks-back}
 use Rattle.plain_node.proofs.run.run_waves.Goals as goal
 
@@ -10,13 +11,13 @@ pub run_wave-requires : goal.run_wave-requires
 run_wave-requires c =
     let cut = drop-item c.args.waves.now c.loop-wave.wave-index c.wave-item.result (search rules)
     (c.wave-item.is ∙ ap (λ (waves : List (List (ℕ × Item))). get_or waves c.loop-wave.wave-index c.wave-item.result) c.as_slice-wave-items.ensures) in
-    (items_of (drop (c.loop-wave.wave-index + 1) c.args.waves.now), rw cut at c.loop-wave.invariant.runs)
+    (joined (drop (c.loop-wave.wave-index + 1) c.args.waves.now), rw cut at c.loop-wave.invariant.runs)
 
 pub loop-wave-preserved : goal.loop-wave-preserved
 loop-wave-preserved c =
     let cut = drop-item c.args.waves.now c.loop-wave.wave-index c.wave-item.result (search rules)
     (c.wave-item.is ∙ ap (λ (waves : List (List (ℕ × Item))). get_or waves c.loop-wave.wave-index c.wave-item.result) c.as_slice-wave-items.ensures) in
-    let rest = items_of (drop (c.loop-wave.wave-index + 1) c.args.waves.now) in
+    let rest = joined (drop (c.loop-wave.wave-index + 1) c.args.waves.now) in
     record {
       runs = c.in_ok-run_wave.ensures.runs rest (rw cut at c.loop-wave.invariant.runs);
       sound = λ asked asks.
