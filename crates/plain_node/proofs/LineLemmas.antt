@@ -14,46 +14,54 @@ use Rattle.script_text.specs.Reading.{item_in, items_of}
 use Rattle.script_text.specs.Asked.{range_asked}
 use Rattle.script_text.specs.WellFormed.{RiseWithin, IsItemWithin, AreItemsWithin, IsOpened, opened_after, AreOpened, IsRead, AreRead, IsWellFormed}
 use Rattle.std.specs.Option.{option_and_then}
-use Rattle.plain_node.specs.Asked.{Asks}
+use Rattle.plain_node.specs.Asked.{Asks, NamesBelow}
 use Rattle.plain_node.specs.Runs.{RunsPlainly, IsPlain, opens}
 
 -- the item that stands first in what is left
 pub drop-item : {A : Type 0} (xs : List A) (i : ℕ) (x : A) → i < length xs → x ≡ get_or xs i x → drop i xs ≡ x ∷ drop (i + 1) xs
 drop-item {A} xs i x within is = rw add-one (drop-cons xs i x within ∙ ap (λ (y : A). y ∷ drop (suc i) xs) (sym is))
 
-module _ (asked : ℕ → Option Range) where
-  pub Asks-drop : (i : ℕ) (lines : List (ℕ × Item)) → Asks asked lines → Asks asked (drop i lines)
+module _ (rows : ℕ → Option Range) (sessions : ℕ) where
+  pub Asks-drop : (i : ℕ) (lines : List (ℕ × Item)) → Asks rows sessions lines → Asks rows sessions (drop i lines)
   Asks-drop zero lines asks = asks
   Asks-drop (suc i) [] asks = tt
-  Asks-drop (suc i) (line ∷ lines) asks = Asks-drop i lines asks.1
+  Asks-drop (suc i) (line ∷ lines) asks = Asks-drop i lines asks.2
 
-  pub Asks-front : (lines more : List (ℕ × Item)) → Asks asked (lines ++ more) → Asks asked lines
+  pub Asks-front : (lines more : List (ℕ × Item)) → Asks rows sessions (lines ++ more) → Asks rows sessions lines
   Asks-front [] more asks = tt
-  Asks-front (line ∷ lines) more asks = (asks.0, Asks-front lines more asks.1)
+  Asks-front (line ∷ lines) more asks = (asks.0, asks.1, Asks-front lines more asks.2)
 
-  pub Asks-back : (lines more : List (ℕ × Item)) → Asks asked (lines ++ more) → Asks asked more
+  pub Asks-back : (lines more : List (ℕ × Item)) → Asks rows sessions (lines ++ more) → Asks rows sessions more
   Asks-back [] more asks = asks
-  Asks-back (line ∷ lines) more asks = Asks-back lines more asks.1
+  Asks-back (line ∷ lines) more asks = Asks-back lines more asks.2
 
 -- the rows that a line asks for, by a list of lines
 abbrev look : List (ℕ × Item) → ℕ → Option Range
 look lines n = option_and_then range_asked (item_in lines n)
 
 -- what lines of later numbers ask doesn't depend on an earlier line
-Asks-later : (line : ℕ × Item) (all : List (ℕ × Item)) (last : ℕ) (opened : Bool) (lines : List (ℕ × Item))
-    → line.0 < last + 1 → RunsPlainly last opened lines → Asks (look all) lines → Asks (look (line ∷ all)) lines
-Asks-later line all last opened [] before runs asks = tt
-Asks-later line all last opened (next ∷ lines) before runs asks = (
+Asks-later : (line : ℕ × Item) (all : List (ℕ × Item)) (last sessions : ℕ) (opened : Bool) (lines : List (ℕ × Item))
+    → line.0 < last + 1 → RunsPlainly last opened lines → Asks (look all) sessions lines → Asks (look (line ∷ all)) sessions lines
+Asks-later line all last sessions opened [] before runs asks = tt
+Asks-later line all last sessions opened (next ∷ lines) before runs asks = (
   rw (ne_eqb line.0 next.0 (λ e. let h = runs.0 in omega arith)) asks.0,
-  Asks-later line all next.0 (opens opened next.1) lines (let h = runs.0 in omega arith) runs.3 asks.1,
+  asks.1,
+  Asks-later line all next.0 sessions (opens opened next.1) lines (let h = runs.0 in omega arith) runs.3 asks.2,
 )
 
--- each line asks what the look-up says
-pub Asks-own : (last : ℕ) (opened : Bool) (lines : List (ℕ × Item)) → RunsPlainly last opened lines → Asks (look lines) lines
-Asks-own last opened [] runs = tt
-Asks-own last opened (line ∷ lines) runs = (
+names-below : (sessions instances rows : ℕ) (item : Item) → IsItemWithin sessions instances rows item → NamesBelow sessions item
+names-below sessions instances rows (Session session inst) within = within.0
+names-below sessions instances rows (Statement session what) within = within.0
+names-below sessions instances rows _ within = tt
+
+-- each line asks what the look-up says, and names a session of the script
+Asks-own : (last sessions instances rows : ℕ) (opened : Bool) (lines : List (ℕ × Item)) → RunsPlainly last opened lines → AreItemsWithin sessions instances rows lines → Asks (look lines) sessions lines
+Asks-own last sessions instances rows opened [] runs within = tt
+Asks-own last sessions instances rows opened (line ∷ lines) runs within = (
   rw (eq-eqb line.0 line.0 refl) refl,
-  Asks-later line lines line.0 (opens opened line.1) lines (omega arith) runs.3 (Asks-own line.0 (opens opened line.1) lines runs.3),
+  names-below sessions instances rows line.1 within.0,
+  Asks-later line lines line.0 sessions (opens opened line.1) lines (omega arith) runs.3
+      (Asks-own line.0 sessions instances rows (opens opened line.1) lines runs.3 within.1),
 )
 
 module _ (most sessions instances rows : ℕ) (numbers : most < 2 ^ 32) (few : sessions ≤ 1) (one : instances ≤ 1) where
@@ -88,3 +96,7 @@ pub plain-script : (parts : ScriptParts) → IsWellFormed parts → RunsPlainly 
 plain-script parts well =
     plain-lines parts.lines (length parts.names) parts.settings.instances (8 * parts.settings.blocks) (let h = well.lines_few in omega arith) well.sessions_few well.instances_few
     0 0 (items_of parts) well.lines_rise well.items_within well.items_opened well.items_read
+
+pub Asks-script : (parts : ScriptParts) → IsWellFormed parts → Asks (look (items_of parts)) (length parts.names) (items_of parts)
+Asks-script parts well =
+    Asks-own 0 (length parts.names) parts.settings.instances (8 * parts.settings.blocks) false (items_of parts) (plain-script parts well) well.items_within

@@ -1,5 +1,6 @@
 -- Which lines the node can run.
-use Rattle.std.specs.Prelude.{◌≡◌, ℕ, ◌^◌, ◌<◌, ◌≤◌, List, [], ◌∷◌, ◌++◌, length, reverse, Bool, true, false, IfSome, is_some, Option}
+use Rattle.std.specs.Prelude.{◌≡◌, ℕ, ◌^◌, ◌<◌, ◌≤◌, List, [], ◌∷◌, ◌++◌, length, reverse, Bool, true, false, IfSome, is_some, Option, All}
+use Rattle.row_model.specs.Past.{session_in}
 use Rattle.row_model.specs.Good.{Range}
 use Rattle.script_text.specs.declared.item.Item.{Item}
 use Rattle.script_text.specs.declared.item.Item.TheVariants.{Session, Stmt as StmtItem}
@@ -42,3 +43,13 @@ IsSound asked node = Sound asked 0 (reverse node.journal) (parts_of node)
 
 abbrev pub IsProper : Node → Type 0
 IsProper node = Proper 0 (reverse node.journal) (parts_of node)
+
+-- each session that the journal names is below a number
+abbrev pub IsNamed : ℕ → Node → Type 0
+IsNamed sessions node = All (λ e. IfSome (session_in e) (λ z. z < sessions)) node.journal
+
+-- the node's state and its journal are right
+pub record IsRight (rows : ℕ → Option Range) (sessions : ℕ) (node : Node) : Type 0 where
+  pub sound : IsSound rows node
+  pub proper : IsProper node
+  pub named : IsNamed sessions node

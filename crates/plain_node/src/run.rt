@@ -1,12 +1,13 @@
-ghost use Rattle.std.specs.Prelude.{◌≡◌, ℕ, List, ◌∷◌, ◌++◌, Option, OnOk, IfOk, false};
+ghost use Rattle.std.specs.Prelude.{◌≡◌, ◌<◌, ℕ, List, ◌∷◌, ◌++◌, length, All, Option, IfSome, OnOk, IfOk};
+ghost use Rattle.row_model.specs.Past.{session_in};
 ghost use Rattle.script_text.specs.declared.item.Item.{Item};
 ghost use Rattle.row_model.specs.Good.{Range, GoodRows, GoodFound, GoodCommits, GoodAcknowledgements, GoodStarts, GoodRowLocks, GoodReplay};
 ghost use Rattle.script_text.specs.ScriptParts.{ScriptParts};
 ghost use Rattle.script_text.specs.Reading.{joined, items_of};
 ghost use Rattle.script_text.specs.WellFormed.{IsWellFormed};
 ghost use Rattle.script_text.specs.Asked.{range_asked, asked};
-ghost use Rattle.plain_node.specs.Asked.{Asks};
-ghost use Rattle.plain_node.specs.Runs.{CanRun, IsSound, IsProper, RunsPlainly};
+ghost use Rattle.plain_node.specs.Asked.{Asks, NamesBelow};
+ghost use Rattle.plain_node.specs.Runs.{CanRun, IsSound, IsProper, IsNamed, IsRight};
 
 use crate::node::Node;
 use rac_nums::NoMemory;
@@ -21,6 +22,7 @@ fn answer(node: &mut Node, alloc: Global, line: u32, item: &Item) -> Result<(), 
     ensures sound { OnOk result ((rows : ℕ → Option Range) → rows line ≡ range_asked item.now →
         IsSound rows node.old → IsSound rows node.new) }
     ensures proper { OnOk result ((rows : ℕ → Option Range) → IsSound rows node.old → IsProper node.old → IsProper node.new) }
+    ensures named { OnOk result ((sessions : ℕ) → NamesBelow sessions item.now → IsNamed sessions node.old → IsNamed sessions node.new) }
 {
     match item {
         Item::Session { session, inst } => node.open(*session, *inst),
@@ -49,8 +51,8 @@ fn answer(node: &mut Node, alloc: Global, line: u32, item: &Item) -> Result<(), 
 fn run_wave(node: &mut Node, alloc: Global, wave: &Wave) -> Result<(), NoMemory>
     requires { (more : List (ℕ × Item)) × CanRun node.old (wave.now ++ more) }
     ensures runs { OnOk result ((more : List (ℕ × Item)) → CanRun node.old (wave.now ++ more) → CanRun node.new more) }
-    ensures sound { OnOk result ((rows : ℕ → Option Range) → Asks rows wave.now →
-        IsSound rows node.old → IsProper node.old → IsSound rows node.new × IsProper node.new) }
+    ensures sound { OnOk result ((rows : ℕ → Option Range) (sessions : ℕ) → Asks rows sessions wave.now →
+        IsRight rows sessions node.old → IsRight rows sessions node.new) }
 {
     for line in wave.as_slice() {
         answer(node, alloc, line.0, &line.1)?;
@@ -61,8 +63,8 @@ fn run_wave(node: &mut Node, alloc: Global, wave: &Wave) -> Result<(), NoMemory>
 /// Runs the waves in order.
 fn run_waves(node: &mut Node, alloc: Global, waves: &Waves) -> Result<(), NoMemory>
     requires { CanRun node.old (joined waves.now) }
-    ensures sound { OnOk result ((rows : ℕ → Option Range) → Asks rows (joined waves.now) →
-        IsSound rows node.old → IsProper node.old → IsSound rows node.new × IsProper node.new) }
+    ensures sound { OnOk result ((rows : ℕ → Option Range) (sessions : ℕ) → Asks rows sessions (joined waves.now) →
+        IsRight rows sessions node.old → IsRight rows sessions node.new) }
 {
     for wave in waves.as_slice() {
         run_wave(node, alloc, wave)?;
@@ -73,8 +75,7 @@ fn run_waves(node: &mut Node, alloc: Global, waves: &Waves) -> Result<(), NoMemo
 /// Runs a script on a new node.
 fn run_node(alloc: Global, script: &Script) -> Result<Node, NoMemory>
     requires { IsWellFormed script.now }
-    ensures sound { IfOk result (IsSound (asked script.now)) }
-    ensures proper { IfOk result IsProper }
+    ensures { IfOk result (IsRight (asked script.now) (length script.now.names)) }
 {
     let mut node = Node::new(alloc);
     run_waves(&mut node, alloc, script.waves())?;
@@ -85,6 +86,7 @@ fn run_node(alloc: Global, script: &Script) -> Result<Node, NoMemory>
 pub fn run_script(alloc: Global, script: &Script) -> Result<Journal, NoMemory>
     requires { IsWellFormed script.now }
 
+    ensures named { IfOk result (All (λ e. IfSome (session_in e) (λ z. z < length script.now.names))) }
     ensures rows { IfOk result (GoodRows (asked script.now)) }
     ensures found { IfOk result GoodFound }
     ensures commits { IfOk result GoodCommits }

@@ -1,21 +1,17 @@
--- The node agrees with its journal at the start, and so at the end.
-use Rattle.script_text.specs.Reading.{items_of}
+-- The node is right at the start, and so at the end.
+use Rattle.std.proofs.Common.{length, IfSome, ◌<◌}
+use Rattle.std.proofs.lemmas.List.Elements.{All-nil}
+use Rattle.row_model.specs.declared.entry.Entry.{Entry}
+use Rattle.row_model.specs.Past.{session_in}
 use Rattle.script_text.specs.Asked.{asked}
-use Rattle.plain_node.proofs.LineLemmas.{Asks-own, plain-script}
+use Rattle.plain_node.proofs.LineLemmas.{Asks-script, plain-script}
 use Rattle.plain_node.proofs.run.run_node.Goals as goal
-use Rattle.std.proofs.Common.{false}
 
 pub run_waves-requires : goal.run_waves-requires
 run_waves-requires c = rw c.waves.ensures (0, c.new-node.ensures.fits, rw c.new-node.ensures.home (plain-script c.args.script.now c.requires))
 
-pub returns-clause-sound : goal.returns-clause-sound
-returns-clause-sound c =
+pub returns : goal.returns
+returns c =
     let parts = c.args.script.now in
-    let asks = Asks-own 0 false (items_of parts) (plain-script parts c.requires) in
-    (c.in_ok-run_waves.ensures.sound (asked parts) (rw c.waves.ensures asks) (c.new-node.ensures.sound (asked parts)) c.new-node.ensures.proper).0
-
-pub returns-clause-proper : goal.returns-clause-proper
-returns-clause-proper c =
-    let parts = c.args.script.now in
-    let asks = Asks-own 0 false (items_of parts) (plain-script parts c.requires) in
-    (c.in_ok-run_waves.ensures.sound (asked parts) (rw c.waves.ensures asks) (c.new-node.ensures.sound (asked parts)) c.new-node.ensures.proper).1
+    c.in_ok-run_waves.ensures.sound (asked parts) (length parts.names) (rw c.waves.ensures (Asks-script parts c.requires))
+    (record { sound = c.new-node.ensures.sound (asked parts); proper = c.new-node.ensures.proper; named = rw c.new-node.ensures.journal (All-nil (λ (e : Entry). IfSome (session_in e) (λ z. z < length parts.names))) })

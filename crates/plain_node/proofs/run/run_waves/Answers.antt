@@ -20,13 +20,13 @@ loop-wave-preserved c =
     let rest = joined (drop (c.loop-wave.wave-index + 1) c.args.waves.now) in
     record {
       runs = c.in_ok-run_wave.ensures.runs rest (rw cut at c.loop-wave.invariant.runs);
-      sound = λ asked asks.
-          let so_far = c.loop-wave.invariant.sound asked asks in
+      sound = λ rows sessions asks.
+          let so_far = c.loop-wave.invariant.sound rows sessions asks in
           let left = rw cut at so_far.0 in (
-            Asks-back asked c.wave-item.result rest left,
-            λ s p. let both = so_far.1 s p in c.in_ok-run_wave.ensures.sound asked (Asks-front asked c.wave-item.result rest left) both.0 both.1,
+            Asks-back rows sessions c.wave-item.result rest left,
+            λ r. c.in_ok-run_wave.ensures.sound rows sessions (Asks-front rows sessions c.wave-item.result rest left) (so_far.1 r),
           );
     }
 
 pub returns : goal.returns
-returns c = record { sound = λ asked asks. (c.loop-wave.invariant.sound asked asks).1 }
+returns c = record { sound = λ rows sessions asks. (c.loop-wave.invariant.sound rows sessions asks).1 }
