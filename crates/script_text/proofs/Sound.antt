@@ -1,5 +1,6 @@
 -- What is read is well formed.
-use Rattle.std.proofs.Common.{◌≡◌, ℕ, ◌+◌, ◌*◌, ◌<◌, ◌≤◌, Bool, true, false, not, ◌&&◌, List, [], ◌∷◌, ◌++◌, length, Option, Some, None, Result, Ok, Err, nat_lt, nat_le, is_none, refl, sym, ap, ◌∙◌, subst, arith, rules, append_assoc, append-nil, length-append, suc}
+use Rattle.std.proofs.Common.{◌≡◌, ℕ, ◌+◌, ◌*◌, ◌<◌, ◌≤◌, Bool, true, false, not, ◌&&◌, List, [], ◌∷◌, ◌++◌, length, Option, Some, None, Result, Ok, Err, nat_lt, nat_le, is_none, refl, sym, ap, ◌∙◌, subst, arith, rules, append_assoc, append-nil, length-append, suc, lit≤}
+use Rattle.std.proofs.lemmas.Bool.{leb-true, ltb-true}
 use Rattle.std.proofs.lemmas.Bool.Decides.{nat_tests}
 use Rattle.std.proofs.lemmas.Grind.{common_steps}
 use Rattle.std.specs.List.{list_any, position_or_len}
@@ -15,7 +16,7 @@ use Rattle.script_text.specs.ScriptParts.{ScriptParts}
 use Rattle.script_text.specs.Words.{words}
 use Rattle.script_text.specs.Spelling.{number}
 use Rattle.script_text.specs.Forms.{Row, with_item, is_open, session_number, instances_so_far, go_line, instances_line, session_line, commit_line, get_line, put_line}
-use Rattle.script_text.specs.Limits.{session_limit}
+use Rattle.script_text.specs.Limits.{session_limit, instance_limit}
 use Rattle.script_text.specs.Rules.{counted, line_read}
 use Rattle.script_text.specs.Reading.{Refusal, joined, go_on, lines_read, nothing_said, script_of, whole, reading}
 use Rattle.script_text.specs.WellFormed.{RiseWithin, HasRowsBelow, IsItemWithin, AreItemsWithin, IsWellFormed}
@@ -60,6 +61,9 @@ record IsSound (line : ℕ) (said : Said) : Type 0 where
   rise : RiseWithin 0 line (items_so_far said)
   within : AreItemsWithin (length said.sessions) (instances_so_far said) 32 (items_so_far said)
   begins : said.begun ≡ false → items_so_far said ≡ []
+  sessions_fit : length said.sessions ≤ 1024
+  has_instance : 1 ≤ instances_so_far said
+  instances_fit : instances_so_far said ≤ 8
 
 -- an item is added at a later line
 with_item-sound : (line : ℕ) (said : Said) (item : Item) → line < said.lines → IsSound line said → IsItemWithin (length said.sessions) (instances_so_far said) 32 item → IsSound said.lines (with_item said item)
@@ -69,6 +73,9 @@ with_item-sound line said item later sound here =
       rise = rw pushed (RiseWithin-push 0 line said.lines (items_so_far said) item (omega arith) later sound.rise);
       within = rw pushed (AreItemsWithin-push (length said.sessions) (instances_so_far said) 32 said.lines (items_so_far said) item sound.within here);
       begins = λ h. absurd (cc);
+      sessions_fit = sound.sessions_fit;
+      has_instance = sound.has_instance;
+      instances_fit = sound.instances_fit;
     }
 
 open_below : (names : List (List ℕ)) (name : List ℕ) → list_any (bytes_eq name) names ≡ true → position_or_len (bytes_eq name) names < length names
@@ -100,17 +107,26 @@ module _ (line : ℕ) (said next : Said) (later : line < said.lines) (sound : Is
         rise = rw same (RiseWithin-more 0 line said.lines (items_so_far said) (omega arith) sound.rise);
         within = rw same sound.within;
         begins = λ h. absurd (cc);
+        sessions_fit = sound.sessions_fit;
+        has_instance = sound.has_instance;
+        instances_fit = sound.instances_fit;
       })
 
   instances-sound : (count : List ℕ) → IsKept (instances_line said count) next → IsSound said.lines next
   unfolding instances_line
   instances-sound count kept =
       let first : said.begun ≡ false = not_yes said.begun (and_left (not said.begun) (is_none said.instances) kept.in_order) in
+      let bounds = kept.in_range in
+      let least : 1 ≤ number count = leb-true _ _ (and_left (nat_le 1 (number count)) (nat_le (number count) instance_limit) bounds) in
+      let most : number count ≤ 1 = leb-true _ _ (and_right (nat_le 1 (number count)) (nat_le (number count) instance_limit) bounds) in
       let empty : items_so_far said ≡ [] = sound.begins first in
       subst (IsSound said.lines) kept.next_is (record {
         rise = rw empty tt;
         within = rw empty tt;
         begins = λ h. empty;
+        sessions_fit = sound.sessions_fit;
+        has_instance = least;
+        instances_fit = omega arith;
       })
 
   session-sound : (name inst : List ℕ) → IsKept (session_line said name inst) next → IsSound said.lines next
@@ -120,12 +136,16 @@ module _ (line : ℕ) (said next : Said) (later : line < said.lines) (sound : Is
       let more : length opened.sessions ≡ length said.sessions + 1 = length-append said.sessions (name ∷ []) in
       let range : nat_lt (number inst) (instances_so_far said) ≡ true = and_left (nat_lt (number inst) (instances_so_far said)) (nat_lt (length said.sessions) session_limit) kept.in_range in
       let below : number inst < instances_so_far said = search (rules, nat_tests) in
+      let room : length said.sessions < 1 = ltb-true _ _ (and_right (nat_lt (number inst) (instances_so_far said)) (nat_lt (length said.sessions) session_limit) kept.in_range) in
       subst (IsSound said.lines) kept.next_is
       (with_item-sound line opened (items.Session (length said.sessions) (record { 0 = number inst })) later
       (record {
         rise = sound.rise;
         within = AreItemsWithin-more (length said.sessions) (length opened.sessions) (instances_so_far said) 32 (items_so_far said) (omega arith) sound.within;
         begins = sound.begins;
+        sessions_fit = omega arith;
+        has_instance = sound.has_instance;
+        instances_fit = sound.instances_fit;
       })
       (omega arith, below))
 
@@ -150,12 +170,12 @@ module _ (line : ℕ) (said next : Said) (later : line < said.lines) (sound : Is
 
 line-sound : (said next : Said) (line : List ℕ) → IsSound said.lines said → line_read said line ≡ Ok next → IsSound next.lines next
 line-sound said next line sound h =
-    let here : IsSound said.lines (counted said) = record { rise = sound.rise; within = sound.within; begins = sound.begins } in
+    let here : IsSound said.lines (counted said) = record { rise = sound.rise; within = sound.within; begins = sound.begins; sessions_fit = sound.sessions_fit; has_instance = sound.has_instance; instances_fit = sound.instances_fit } in
     let later : said.lines < said.lines + 1 = omega arith in
     let P : ℕ → Type 0 = λ n. IsSound n next in
     subst P (sym (line_read-lines said next line h))
     (of_words (IsSound (said.lines + 1)) (counted said) next
-    (record { rise = RiseWithin-more 0 said.lines (said.lines + 1) (items_so_far said) (omega arith) sound.rise; within = sound.within; begins = sound.begins })
+    (record { rise = RiseWithin-more 0 said.lines (said.lines + 1) (items_so_far said) (omega arith) sound.rise; within = sound.within; begins = sound.begins; sessions_fit = sound.sessions_fit; has_instance = sound.has_instance; instances_fit = sound.instances_fit })
     (record {
       go = go-sound said.lines (counted said) next later here;
       instances = instances-sound said.lines (counted said) next later here;
@@ -176,15 +196,36 @@ lines-sound (line ∷ ls) said final sound h =
     let next = go_on-ok (line_read said line) (said.lines + 1) (λ s. lines_read s ls) final h in
     lines-sound ls next.0 final (line-sound said next.0 line sound next.1) next.2
 
+lines-few : (ls : List (List ℕ)) (said final : Said) → said.lines ≤ 10000 → lines_read said ls ≡ Ok final → final.lines ≤ 10000
+lines-few [] said final few h = let e : said.lines ≡ final.lines = let same : said ≡ final = cc in ap (λ s. s.lines) same in omega arith
+lines-few (line ∷ ls) said final few h =
+    let next = go_on-ok (line_read said line) (said.lines + 1) (λ s. lines_read s ls) final h in
+    let short = (line_read-ok said next.0 line next.1).0 in
+    let less = short.lines in
+    lines-few ls next.0 final (omega (arith, line_read-lines said next.0 line next.1)) next.2
+
 pub whole-ok : (read : Result Said Refusal) (parts : ScriptParts) → whole read ≡ Ok parts → (final : Said) × (read ≡ Ok final) × (script_of final ≡ parts)
 whole-ok (Ok final) parts h = let e : script_of final ≡ parts = cc in (final, refl, e)
 whole-ok (Err refusal) parts h = absurd (cc)
+
+has-last : (waves : List (List (ℕ × Item))) (wave : List (ℕ × Item)) → 0 < length (waves ++ wave ∷ [])
+has-last waves wave = omega (arith, length-append waves (wave ∷ []))
 
 -- a text that is read is a well-formed script
 pub reading-well_formed : (text : List ℕ) (parts : ScriptParts) → reading text ≡ Ok parts → IsWellFormed parts
 unfolding reading
 reading-well_formed text parts h =
     let read = whole-ok (lines_read nothing_said (lines text)) parts h in
-    let sound = lines-sound (lines text) nothing_said read.0 (record { rise = tt; within = tt; begins = λ _. refl }) read.1 in
+    let sound = lines-sound (lines text) nothing_said read.0 (record { rise = tt; within = tt; begins = λ _. refl; sessions_fit = lit≤ tt; has_instance = lit≤ tt; instances_fit = lit≤ tt }) read.1 in
     let all : joined (read.0.waves ++ read.0.wave ∷ []) ≡ items_so_far read.0 = joined-push read.0.waves read.0.wave in
-    subst IsWellFormed read.2 (record { lines_rise = rw all sound.rise; items_within = rw all sound.within })
+    subst IsWellFormed read.2 (record {
+      has_wave = has-last read.0.waves read.0.wave;
+      lines_rise = rw all sound.rise;
+      items_within = rw all sound.within;
+      lines_fit = lines-few (lines text) nothing_said read.0 (lit≤ tt) read.1;
+      sessions_fit = sound.sessions_fit;
+      has_instance = sound.has_instance;
+      instances_fit = sound.instances_fit;
+      has_block = lit≤ tt;
+      blocks_fit = lit≤ tt;
+    })

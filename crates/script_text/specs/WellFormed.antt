@@ -43,7 +43,16 @@ AreItemsWithin sessions instances rows [] = Unit {0}
 AreItemsWithin sessions instances rows (item ∷ more) =
     IsItemWithin sessions instances rows item.1 × AreItemsWithin sessions instances rows more
 
--- the line numbers rise strictly over all waves, and what the items name is there
+-- there is at least one wave, the line numbers rise strictly over all waves, what the items name is there, and
+-- the numbers are within their limits
 pub record IsWellFormed (parts : ScriptParts) : Type 0 where
+  pub has_wave : 0 < length parts.waves
   pub lines_rise : RiseWithin 0 parts.lines (items_of parts)
-  pub items_within : AreItemsWithin (length parts.names) parts.settings.instances (8 * parts.settings.blocks) (items_of parts)
+  pub items_within :
+      AreItemsWithin (length parts.names) parts.settings.instances (8 * parts.settings.blocks) (items_of parts)
+  pub lines_fit : parts.lines ≤ 10000
+  pub sessions_fit : length parts.names ≤ 1024
+  pub has_instance : 1 ≤ parts.settings.instances
+  pub instances_fit : parts.settings.instances ≤ 8
+  pub has_block : 1 ≤ parts.settings.blocks
+  pub blocks_fit : parts.settings.blocks ≤ 64
