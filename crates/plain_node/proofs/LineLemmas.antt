@@ -94,7 +94,7 @@ module _ (most sessions instances rows : ℕ) (numbers : most < 2 ^ 32) (few : s
 
 pub plain-script : (parts : ScriptParts) → IsWellFormed parts → RunsPlainly 0 false (items_of parts)
 plain-script parts well =
-    plain-lines parts.lines (length parts.names) parts.settings.instances (8 * parts.settings.blocks) (let h = well.lines_few in omega arith) well.sessions_few well.instances_few
+    plain-lines parts.lines (length parts.names) parts.settings.instances (8 * parts.settings.blocks) (let h = well.lines_fit in omega arith) well.sessions_today well.instances_today
     0 0 (items_of parts) well.lines_rise well.items_within well.items_opened well.items_read
 
 pub Asks-script : (parts : ScriptParts) → IsWellFormed parts → Asks (look (items_of parts)) (length parts.names) (items_of parts)

@@ -1,5 +1,6 @@
 -- What is read is well formed.
-use Rattle.std.proofs.Common.{◌≡◌, ℕ, ◌+◌, ◌*◌, ◌<◌, ◌≤◌, Bool, true, false, not, ◌&&◌, List, [], ◌∷◌, ◌++◌, length, Option, Some, None, Result, Ok, Err, nat_lt, nat_le, is_none, refl, sym, ap, ◌∙◌, subst, arith, rules, append_assoc, append-nil, length-append, suc}
+use Rattle.std.proofs.Common.{◌≡◌, ℕ, ◌+◌, ◌*◌, ◌<◌, ◌≤◌, Bool, true, false, not, ◌&&◌, List, [], ◌∷◌, ◌++◌, length, Option, Some, None, Result, Ok, Err, nat_lt, nat_le, is_none, refl, sym, ap, ◌∙◌, subst, arith, rules, append_assoc, append-nil, length-append, suc, lit≤}
+use Rattle.std.proofs.lemmas.Bool.{leb-true, ltb-true}
 use Rattle.std.proofs.lemmas.Bool.Decides.{nat_tests}
 use Rattle.std.proofs.lemmas.Grind.{common_steps}
 use Rattle.std.specs.List.{list_any, position_or_len}
@@ -82,6 +83,7 @@ record IsSound (line : ℕ) (said : Said) : Type 0 where
   read : AreRead (items_so_far said)
   few : length said.sessions ≤ 1
   one : instances_so_far said ≤ 1
+  has_instance : 1 ≤ instances_so_far said
 
 -- an item is added at a later line, by which sessions are as many as they are said to be
 with_item-sound : (line : ℕ) (said : Said) (sessions : List (List ℕ)) (item : Item) → line < said.lines → IsSound line said
@@ -100,6 +102,7 @@ with_item-sound line said sessions item later sound more few here is_opened coun
       read = rw pushed (AreRead-push said.lines (items_so_far said) item sound.read is_read);
       few = few;
       one = sound.one;
+      has_instance = sound.has_instance;
     }
 
 open_below : (names : List (List ℕ)) (name : List ℕ) → list_any (bytes_eq name) names ≡ true → position_or_len (bytes_eq name) names < length names
@@ -136,12 +139,16 @@ module _ (line : ℕ) (said next : Said) (later : line < said.lines) (sound : Is
         read = rw same sound.read;
         few = sound.few;
         one = sound.one;
+        has_instance = sound.has_instance;
       })
 
   instances-sound : (count : List ℕ) → IsKept (instances_line said count) next → IsSound said.lines next
   unfolding instances_line
   instances-sound count kept =
       let first : said.begun ≡ false = not_yes said.begun (and_left (not said.begun) (is_none said.instances) kept.in_order) in
+      let bounds = kept.in_range in
+      let least : 1 ≤ number count = leb-true _ _ (and_left (nat_le 1 (number count)) (nat_le (number count) instance_limit) bounds) in
+      let most : number count ≤ 1 = leb-true _ _ (and_right (nat_le 1 (number count)) (nat_le (number count) instance_limit) bounds) in
       let empty : items_so_far said ≡ [] = sound.begins first in
       subst (IsSound said.lines) kept.next_is (record {
         rise = rw empty tt;
@@ -151,7 +158,8 @@ module _ (line : ℕ) (said next : Said) (later : line < said.lines) (sound : Is
         count = sound.count;
         read = rw empty tt;
         few = sound.few;
-        one = search (rules, nat_tests, and_right (nat_le 1 (number count)) (nat_le (number count) instance_limit) kept.in_range);
+        one = most;
+        has_instance = least;
       })
 
   session-sound : (name inst : List ℕ) → IsKept (session_line said name inst) next → IsSound said.lines next
@@ -190,12 +198,12 @@ module _ (line : ℕ) (said next : Said) (later : line < said.lines) (sound : Is
 
 line-sound : (said next : Said) (line : List ℕ) → IsSound said.lines said → line_read said line ≡ Ok next → IsSound next.lines next
 line-sound said next line sound h =
-    let here : IsSound said.lines (counted said) = record { rise = sound.rise; within = sound.within; begins = sound.begins; opened = sound.opened; count = sound.count; read = sound.read; few = sound.few; one = sound.one } in
+    let here : IsSound said.lines (counted said) = record { rise = sound.rise; within = sound.within; begins = sound.begins; opened = sound.opened; count = sound.count; read = sound.read; few = sound.few; one = sound.one; has_instance = sound.has_instance } in
     let later : said.lines < said.lines + 1 = omega arith in
     let P : ℕ → Type 0 = λ n. IsSound n next in
     subst P (sym (line_read-lines said next line h))
     (of_words (IsSound (said.lines + 1)) (counted said) next
-    (record { rise = RiseWithin-more 0 said.lines (said.lines + 1) (items_so_far said) (omega arith) sound.rise; within = sound.within; begins = sound.begins; opened = sound.opened; count = sound.count; read = sound.read; few = sound.few; one = sound.one })
+    (record { rise = RiseWithin-more 0 said.lines (said.lines + 1) (items_so_far said) (omega arith) sound.rise; within = sound.within; begins = sound.begins; opened = sound.opened; count = sound.count; read = sound.read; few = sound.few; one = sound.one; has_instance = sound.has_instance })
     (record {
       go = go-sound said.lines (counted said) next later here;
       instances = instances-sound said.lines (counted said) next later here;
@@ -228,11 +236,30 @@ pub whole-ok : (read : Result Said Refusal) (parts : ScriptParts) → whole read
 whole-ok (Ok final) parts h = let e : script_of final ≡ parts = cc in (final, refl, e)
 whole-ok (Err refusal) parts h = absurd (cc)
 
+has-last : (waves : List (List (ℕ × Item))) (wave : List (ℕ × Item)) → 0 < length (waves ++ wave ∷ [])
+has-last waves wave = omega (arith, length-append waves (wave ∷ []))
+
 -- a text that is read is a well-formed script
 pub reading-well_formed : (text : List ℕ) (parts : ScriptParts) → reading text ≡ Ok parts → IsWellFormed parts
 unfolding reading
 reading-well_formed text parts h =
     let read = whole-ok (lines_read nothing_said (lines text)) parts h in
-    let sound = lines-sound (lines text) nothing_said read.0 (record { rise = tt; within = tt; begins = λ _. refl; opened = tt; count = refl; read = tt; few = omega arith; one = omega arith }) read.1 in
+    let sound = lines-sound (lines text) nothing_said read.0 (record { rise = tt; within = tt; begins = λ _. refl; opened = tt; count = refl; read = tt; few = lit≤ tt; one = lit≤ tt; has_instance = lit≤ tt }) read.1 in
     let all : joined (read.0.waves ++ read.0.wave ∷ []) ≡ items_so_far read.0 = joined-push read.0.waves read.0.wave in
-    subst IsWellFormed read.2 (record { lines_rise = rw all sound.rise; items_within = rw all sound.within; items_opened = rw all sound.opened; items_read = rw all sound.read; lines_few = lines-few (lines text) nothing_said read.0 (omega arith) read.1; instances_few = sound.one; sessions_few = sound.few })
+    let few = sound.few in
+    let one = sound.one in
+    subst IsWellFormed read.2 (record {
+      has_wave = has-last read.0.waves read.0.wave;
+      lines_rise = rw all sound.rise;
+      items_within = rw all sound.within;
+      items_opened = rw all sound.opened;
+      items_read = rw all sound.read;
+      lines_fit = lines-few (lines text) nothing_said read.0 (lit≤ tt) read.1;
+      sessions_fit = omega arith;
+      sessions_today = few;
+      has_instance = sound.has_instance;
+      instances_fit = omega arith;
+      instances_today = one;
+      has_block = lit≤ tt;
+      blocks_fit = lit≤ tt;
+    })

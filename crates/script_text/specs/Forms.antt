@@ -40,9 +40,13 @@ plain said = record {
 abbrev pub instances_so_far : Said → ℕ
 instances_so_far said = unwrap_or said.instances default_instances
 
+-- how many blocks there are, as far as was said
+abbrev pub blocks_so_far : Said → ℕ
+blocks_so_far said = default_blocks
+
 -- a row's number is below eight times the number of blocks
-abbrev pub is_row : List ℕ → Bool
-is_row word = nat_lt (number word) (8 * default_blocks)
+abbrev pub is_row : Said → List ℕ → Bool
+is_row said word = nat_lt (number word) (8 * blocks_so_far said)
 
 -- whether the session of this name is open
 abbrev pub is_open : Said → List ℕ → Bool
@@ -91,7 +95,7 @@ put_line said name row value =
     record (statement_line said name (statements.Put (record { 0 = number row }) (Num (signed_number value)))) {
       numbers = row ∷ [];
       signed_numbers = value ∷ [];
-      in_range = is_row row;
+      in_range = is_row said row;
     }
 
 -- `NAME: get K`
@@ -99,7 +103,7 @@ unfoldable pub get_line : Said → List ℕ → List ℕ → Row
 get_line said name row =
     record (statement_line said name (statements.Get (record { 0 = number row }))) {
       numbers = row ∷ [];
-      in_range = is_row row;
+      in_range = is_row said row;
     }
 
 -- `NAME: commit`

@@ -6,8 +6,8 @@ use Rattle.script_text.specs.declared.item.Item.{Item}
 use Rattle.script_text.specs.declared.said.Said.{Said}
 use Rattle.script_text.specs.declared.script.Settings.{Settings}
 use Rattle.script_text.specs.ScriptParts.{ScriptParts}
-use Rattle.script_text.specs.Limits.{default_blocks, default_undo, default_cache, default_seed}
-use Rattle.script_text.specs.Forms.{instances_so_far}
+use Rattle.script_text.specs.Limits.{default_undo, default_cache, default_seed}
+use Rattle.script_text.specs.Forms.{instances_so_far, blocks_so_far}
 use Rattle.script_text.specs.Rules.{line_read}
 
 -- a text is refused for the first line that breaks a rule, counted from 1, and the first rule that it breaks
@@ -33,7 +33,7 @@ lines_read said (line ∷ rest) = go_on (line_read said line) (said.lines + 1) (
 abbrev pub settings_of : Said → Settings
 settings_of said = record {
   instances = instances_so_far said;
-  blocks = default_blocks;
+  blocks = blocks_so_far said;
   undo = default_undo;
   cache = default_cache;
   seed = default_seed;

@@ -6,7 +6,7 @@ use Rattle.script_text.specs.declared.item.Item.TheVariants as items
 use Rattle.script_text.specs.declared.item.Stmt.{Stmt}
 use Rattle.script_text.specs.declared.item.Stmt.TheVariants as statements
 use Rattle.script_text.specs.ScriptParts.{ScriptParts}
-use Rattle.script_text.specs.Limits.{line_limit, instance_limit, session_limit}
+use Rattle.script_text.specs.Limits.{instance_limit, session_limit}
 use Rattle.script_text.specs.Reading.{items_of}
 
 -- the line numbers of the items rise strictly, are above `before` and at most `most`
@@ -79,14 +79,21 @@ abbrev pub AreRead : List (ℕ × Item) → Type 0
 AreRead [] = Unit {0}
 AreRead (item ∷ more) = IsRead item.1 × AreRead more
 
--- The line numbers rise strictly over all waves, and what the items name is there; sessions are opened in the
--- order of their numbers, before they are named; every item is of a form that is read today; lines, instances and
--- sessions are no more than their limits.
+-- There is at least one wave, the line numbers rise strictly over all waves, and what the items name is there;
+-- sessions are opened in the order of their numbers, before they are named; every item is of a form that is read
+-- today; and the numbers are within their limits, those of today included.
 pub record IsWellFormed (parts : ScriptParts) : Type 0 where
+  pub has_wave : 0 < length parts.waves
   pub lines_rise : RiseWithin 0 parts.lines (items_of parts)
-  pub items_within : AreItemsWithin (length parts.names) parts.settings.instances (8 * parts.settings.blocks) (items_of parts)
+  pub items_within :
+      AreItemsWithin (length parts.names) parts.settings.instances (8 * parts.settings.blocks) (items_of parts)
   pub items_opened : AreOpened 0 (items_of parts)
   pub items_read : AreRead (items_of parts)
-  pub lines_few : parts.lines ≤ line_limit
-  pub instances_few : parts.settings.instances ≤ instance_limit
-  pub sessions_few : length parts.names ≤ session_limit
+  pub lines_fit : parts.lines ≤ 10000
+  pub sessions_fit : length parts.names ≤ 1024
+  pub sessions_today : length parts.names ≤ session_limit
+  pub has_instance : 1 ≤ parts.settings.instances
+  pub instances_fit : parts.settings.instances ≤ 8
+  pub instances_today : parts.settings.instances ≤ instance_limit
+  pub has_block : 1 ≤ parts.settings.blocks
+  pub blocks_fit : parts.settings.blocks ≤ 64

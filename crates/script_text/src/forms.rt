@@ -1,10 +1,11 @@
-ghost use Rattle.std.specs.Prelude.{◌≡◌, Ok, Err, OnOk, OnErr, MatchResult, nat_lt, if◌then◌else◌};
-ghost use Rattle.script_text.specs.Forms.{go_line, instances_line, session_line, put_line, get_line, commit_line, instances_so_far, is_open, session_number, with_item};
+ghost use Rattle.std.specs.Prelude.{◌≡◌, Ok, Err, OnOk, OnErr, MatchResult, nat_lt, ◌*◌, if◌then◌else◌};
+ghost use Rattle.script_text.specs.Forms.{go_line, instances_line, session_line, put_line, get_line, commit_line, instances_so_far, blocks_so_far, is_open, session_number, with_item};
 ghost use Rattle.script_text.specs.Forms.{form_of_one, form_of_two, form_of_three, form_of_four};
 ghost use Rattle.script_text.specs.Rules.{judged, judged_form};
 ghost use Rattle.script_text.specs.Shapes.{Takes};
 
 use crate::item::{Item, Stmt};
+use crate::limits::{BLOCK_ROWS, DEFAULT_BLOCKS, DEFAULT_INSTANCES, INSTANCES, SESSIONS};
 use crate::rule::{LineError, Rule};
 use crate::said::Said;
 use crate::script::Wave;
@@ -13,35 +14,30 @@ use rac_nums::{InstNo, NoMemory, RowNo};
 use std::alloc::Global;
 use std::mem;
 
-/// How many instances there are at most.
-const INSTANCES: u64 = 1;
-
-/// How many instances there are where nothing is set.
-const DEFAULT_INSTANCES: u8 = 1;
-
-/// How many sessions a script opens at most.
-const SESSIONS: usize = 1;
-
-/// How many rows there are.
-const ROWS: u64 = 32;
-
-/// The row of this number.
-fn row_of(number: u64) -> Result<RowNo, Rule>
-    ensures { result ≡ (if nat_lt number 32 then Ok (record { 0 = number }) else Err Rule.Range) }
-{
-    if number < ROWS {
-        Ok(RowNo(number as u16))
-    } else {
-        Err(Rule::Range)
-    }
-}
-
 impl Said {
     /// How many instances there are, as far as was said.
     pub fn instances_so_far(&self) -> u8
         ensures { result ≡ instances_so_far self.now }
     {
         self.instances.unwrap_or(DEFAULT_INSTANCES)
+    }
+
+    /// How many blocks there are, as far as was said.
+    pub fn blocks_so_far(&self) -> u16
+        ensures { result ≡ blocks_so_far self.now }
+    {
+        DEFAULT_BLOCKS
+    }
+
+    /// The row of this number.
+    fn row_of(&self, number: u64) -> Result<RowNo, Rule>
+        ensures { result ≡ (if nat_lt number (8 * blocks_so_far self.now) then Ok (record { 0 = number }) else Err Rule.Range) }
+    {
+        if number < BLOCK_ROWS * u64::from(self.blocks_so_far()) {
+            Ok(RowNo(number as u16))
+        } else {
+            Err(Rule::Range)
+        }
     }
 
     /// The number of an open session.
@@ -120,7 +116,7 @@ impl Said {
         let name = name_of(name)?;
         let row = number_of(row)?;
         let value = signed_number_of(value)?;
-        let row = row_of(row)?;
+        let row = self.row_of(row)?;
         let session = self.session_of(name)?;
         self.push_item(Item::Stmt {
             session,
@@ -136,7 +132,7 @@ impl Said {
     {
         let name = name_of(name)?;
         let row = number_of(row)?;
-        let row = row_of(row)?;
+        let row = self.row_of(row)?;
         let session = self.session_of(name)?;
         self.push_item(Item::Stmt {
             session,

@@ -10,6 +10,7 @@ ghost use Rattle.script_text.specs.WellFormed.{IsWellFormed};
 ghost use Rattle.script_text.specs.Limits.{text_bytes};
 ghost use Rattle.script_text.specs.Reading.{nothing_said, lines_read, settings_of, script_of, reading, Refusal};
 
+use crate::limits::{DEFAULT_CACHE, DEFAULT_SEED, DEFAULT_UNDO, LINE_BYTES, LINES};
 use crate::lines::first_line;
 use crate::rule::{LineError, Rule, ScriptError};
 use crate::said::Said;
@@ -17,24 +18,6 @@ use crate::script::{Script, Settings};
 use crate::words::{Words, says_nothing, words_of};
 use rac_nums::NoMemory;
 use std::alloc::Global;
-
-/// How many lines a script has at most.
-const LINES: u32 = 10_000;
-
-/// How many bytes a line has at most, without its end.
-const LINE_BYTES: usize = 200;
-
-/// How many blocks there are where nothing is set.
-const DEFAULT_BLOCKS: u16 = 4;
-
-/// How many undo records a segment has room for where nothing is set.
-const DEFAULT_UNDO: u16 = 16;
-
-/// How many frames a cache has where nothing is set.
-const DEFAULT_CACHE: u8 = 16;
-
-/// Which schedule is taken where nothing is set.
-const DEFAULT_SEED: u64 = 1;
 
 fn are_plain(line: &[u8]) -> bool
     ensures { result ≡ list_all is_plain line.now }
@@ -99,7 +82,7 @@ impl Said {
     {
         Settings {
             instances: self.instances_so_far(),
-            blocks: DEFAULT_BLOCKS,
+            blocks: self.blocks_so_far(),
             undo: DEFAULT_UNDO,
             cache: DEFAULT_CACHE,
             seed: DEFAULT_SEED,
