@@ -1,0 +1,9 @@
+//! What a run did, as text: the report of its answers, its journal, and a summary.
+#![tactic(auto)]
+
+mod answer;
+mod places;
+mod texts;
+mod told;
+
+pub use told::report;
