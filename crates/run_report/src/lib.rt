@@ -2,8 +2,10 @@
 #![tactic(auto)]
 
 mod answer;
+mod ends;
 mod places;
 mod texts;
 mod told;
+mod waves;
 
 pub use told::report;
