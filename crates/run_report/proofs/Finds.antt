@@ -1,9 +1,11 @@
 -- The first element of a list that passes a test, and its place.
-use Rattle.std.proofs.Common.{◌≡◌, ℕ, suc, ◌+◌, ◌-◌, ◌<◌, ◌≤◌, Bool, true, false, cond, List, [], ◌∷◌, ◌++◌, length, get_or, Option, Some, None, arith, refl, ap, sym, take, add-zero, length-take, ◌∙◌}
-use Rattle.std.proofs.lemmas.List.{take_more}
+use Rattle.std.proofs.Common.{◌≡◌, ℕ, zero, suc, ◌+◌, ◌-◌, ◌<◌, ◌≤◌, Bool, true, false, cond, List, [], ◌∷◌, ◌++◌, length, get_or, Option, Some, None, arith, refl, ap, sym, take, reverse, ◌||◌, nat_lt, is_some, add-zero, length-take, ◌∙◌}
+use Rattle.std.proofs.lemmas.List.{take_more, reverse-append}
+use Rattle.std.proofs.lemmas.List.Folds.{list_any-append}
+use Rattle.std.proofs.lemmas.Bool.Decides.{nat_tests}
 use Rattle.std.specs.Prelude.{find}
-use Rattle.std.specs.List.{position_from}
-use Rattle.std.specs.Option.{option_or}
+use Rattle.std.specs.List.{position_from, list_any}
+use Rattle.std.specs.Option.{option_or, option_map_or}
 
 pub find-none : {X : Type 0} (p : X → Bool) (n : ℕ) (xs : List X) → position_from p n xs ≡ None → find p xs ≡ None
 find-none p n [] e = refl
@@ -67,3 +69,49 @@ place-more p xs i x within at_i =
     let more = take_more xs i x within in
     let len : 0 + length (take i xs) ≡ i = simp length-take (omega arith) in
     rw (more, ← at_i) (position_from-push p 0 (take i xs) x ∙ ap (λ k. option_or (position_from p 0 (take i xs)) (cond (p x) (Some k) None)) len)
+
+-- what stands before a place
+pub list_any-reverse : {X : Type 0} (p : X → Bool) (xs : List X) → list_any p (reverse xs) ≡ list_any p xs
+list_any-reverse p [] = refl
+list_any-reverse p (x ∷ xs) =
+    ap (list_any p) (reverse-append (x ∷ []) xs) ∙ list_any-append p (reverse xs) (x ∷ []) ∙ last (p x) (list_any p (reverse xs)) (list_any p xs) (list_any-reverse p xs)
+  where
+    last : (a b c : Bool) → b ≡ c → (b || (a || false)) ≡ (a || c)
+    last true true c e = refl
+    last true false c e = refl
+    last false true c e = e
+    last false false c e = e
+
+pub list_any-before : {X : Type 0} (p : X → Bool) (n : ℕ) (xs : List X) (at : ℕ) → list_any p (take at xs) ≡ option_map_or (λ place. nat_lt place (n + at)) (position_from p n xs) false
+list_any-before p n [] zero = refl
+list_any-before p n [] (suc at) = refl
+list_any-before p n (x ∷ xs) zero = sym (none_before (position_from p n (x ∷ xs)) (λ i e. (place_within p n (x ∷ xs) i e).0))
+  where
+    none_before : (r : Option ℕ) → ((i : ℕ) → r ≡ Some i → n ≤ i) → option_map_or (λ place. nat_lt place (n + 0)) r false ≡ false
+    none_before None h = refl
+    none_before (Some i) h = let later : n ≤ i = h i refl in grind (arith, nat_tests)
+list_any-before p n (x ∷ xs) (suc at) =
+    elim (p x) as (λ b. (b || list_any p (take at xs)) ≡ option_map_or (λ place. nat_lt place (n + suc at)) (cond b (Some n) (position_from p (n + 1) xs)) false) [
+      | true ↦ here n at
+      | false ↦
+          let e = list_any-before p (n + 1) xs at in
+          let k : n + 1 + at ≡ n + suc at = omega arith in
+          e ∙ ap (λ m. option_map_or (λ place. nat_lt place m) (position_from p (n + 1) xs) false) k
+    ]
+  where
+    here : (n at : ℕ) → true ≡ nat_lt n (n + suc at)
+    here n at = grind (arith, nat_tests)
+
+pub list_any-somewhere : {X : Type 0} (p : X → Bool) (n : ℕ) (xs : List X) → list_any p xs ≡ is_some (position_from p n xs)
+list_any-somewhere p n [] = refl
+list_any-somewhere p n (x ∷ xs) =
+    elim (p x) as (λ b. (b || list_any p xs) ≡ is_some (cond b (Some n) (position_from p (n + 1) xs))) [
+      | true ↦ refl
+      | false ↦ list_any-somewhere p (n + 1) xs
+    ]
+
+-- the past with one entry more
+pub past-more : {X : Type 0} (xs : List X) (i : ℕ) (x : X) → i < length xs → x ≡ get_or xs i x → reverse (take (i + 1) xs) ≡ x ∷ reverse (take i xs)
+past-more xs i x within at_i =
+    let more = take_more xs i x within in
+    rw (more, ← at_i) (reverse-append (take i xs) (x ∷ []))

@@ -1,1 +1,4 @@
 mod Finds
+mod Current
+mod Settled
+mod EndSteps

@@ -39,11 +39,14 @@ abbrev pub is_answered : List Entry → List Entry → (ℕ → Bool → InstNo 
 is_answered journal past ended wave (line, item) =
     list_any (answers line) past || (not (list_any (answers line) journal) && is_ended ended wave item)
 
--- The first wave, counted from `first`, that has a line which is to be answered and isn't, else the last one.
+-- Nothing is awaited of a line that is answered or isn't to be answered.
+abbrev pub is_done : List Entry → List Entry → (ℕ → Bool → InstNo → Bool) → ℕ → ℕ × Item → Bool
+is_done journal past ended wave line = not (is_asked line.1) || is_answered journal past ended wave line
+
+-- The first wave, counted from `first`, that has a line which isn't done, else the last one.
 abbrev pub current_wave : (ℕ → ℕ × Item → Bool) → ℕ → List (List (ℕ × Item)) → ℕ
-current_wave answered first [] = first - 1
-current_wave answered first (wave ∷ waves) =
-    if list_all (λ line. not (is_asked line.1) || answered first line) wave then current_wave answered (first + 1) waves else first
+current_wave done first [] = first - 1
+current_wave done first (wave ∷ waves) = if list_all (done first) wave then current_wave done (first + 1) waves else first
 
 -- Whether an entry is the end of an instance.
 abbrev pub ends : Entry → InstNo → Bool
@@ -56,4 +59,4 @@ ended_in journal waves [] wave down inst = false
 ended_in journal waves (entry ∷ past) wave down inst =
     ended_in journal waves past wave down inst
     || (ends entry inst && not (down && is_up past inst)
-    && current_wave (is_answered journal past (ended_in journal waves past)) 0 waves == wave)
+    && current_wave (is_done journal past (ended_in journal waves past)) 0 waves == wave)

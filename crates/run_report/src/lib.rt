@@ -3,6 +3,7 @@
 
 mod answer;
 mod ends;
+mod losses;
 mod places;
 mod texts;
 mod told;

@@ -1,4 +1,4 @@
-ghost use Rattle.std.specs.Prelude.{◌≡◌, ◌<◌, ◌≤◌, ℕ, [], false, true, length, nat_eq, take};
+ghost use Rattle.std.specs.Prelude.{◌-◌, min, ◌≡◌, ◌<◌, ◌≤◌, ℕ, [], false, true, length, nat_eq, take};
 ghost use Rattle.std.specs.HashMap.{get};
 ghost use Rattle.std.specs.List.{list_all, slice_index_or};
 ghost use Rattle.run_report.specs.Found.{AreSettled, is_settled, kept};
@@ -12,6 +12,15 @@ use script_text::{Item, Wave};
 pub(crate) struct Cursor {
     pub(crate) wave: usize,
     pub(crate) line: usize,
+}
+
+impl Cursor {
+    /// The number of its wave or, past the last of so many waves, of that one.
+    pub(crate) fn wave_of(self, waves: usize) -> usize
+        ensures { result ≡ min self.wave (waves - 1) }
+    {
+        self.wave.min(waves.saturating_sub(1))
+    }
 }
 
 /// What is known before a place of the journal.
