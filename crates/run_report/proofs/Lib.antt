@@ -2,3 +2,4 @@ mod Finds
 mod Current
 mod Settled
 mod EndSteps
+mod Wholes

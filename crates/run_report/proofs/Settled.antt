@@ -14,7 +14,7 @@ use Rattle.run_report.specs.Found.{AreSettled, is_settled}
 use Rattle.run_report.proofs.Current.{list_all-mono}
 use Rattle.run_report.proofs.Finds.{list_any-before, list_any-reverse, list_any-somewhere}
 
-is_ended-cong : (E D : ℕ → Bool → InstNo → Bool) → ((w : ℕ) (d : Bool) (i : InstNo) → E w d i ≡ D w d i) → (w : ℕ) (item : Item) → is_ended E w item ≡ is_ended D w item
+pub is_ended-cong : (E D : ℕ → Bool → InstNo → Bool) → ((w : ℕ) (d : Bool) (i : InstNo) → E w d i ≡ D w d i) → (w : ℕ) (item : Item) → is_ended E w item ≡ is_ended D w item
 is_ended-cong E D same w (Session _ _) = refl
 is_ended-cong E D same w (Statement _ _) = refl
 is_ended-cong E D same w (CrashAfter inst _ _) = same w false inst

@@ -5,7 +5,7 @@ ghost use Rattle.run_report.specs.Answers.{answers};
 
 use crate::answer::answered_line;
 use rac_nums::NoMemory;
-use row_model::Journal;
+use row_model::Entry;
 use std::alloc::Global;
 use std::collections::HashMap;
 
@@ -13,11 +13,11 @@ use std::collections::HashMap;
 pub(crate) type Places = HashMap<u32, usize>;
 
 /// Goes over the journal once.
-pub(crate) fn first_answers(alloc: Global, journal: &Journal) -> Result<Places, NoMemory>
+pub(crate) fn first_answers(alloc: Global, journal: &[Entry]) -> Result<Places, NoMemory>
     ensures { IfOk result (λ places. (line : ℕ) → get nat_eq places line ≡ position_from (answers line) 0 journal.now) }
 {
     let mut places = HashMap::new(alloc);
-    for (at, entry) in journal.as_slice().iter().enumerate() {
+    for (at, entry) in journal.iter().enumerate() {
         if let Some(line) = answered_line(entry) {
             places.entry(line)?.or_insert(at);
         }

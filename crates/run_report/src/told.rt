@@ -1,11 +1,15 @@
-ghost use Rattle.std.specs.Prelude.{◌≡◌, ℕ, ◌++◌, IfOk, OnOk, nat_eq, option_map, string_bytes};
+ghost use Rattle.std.specs.Prelude.{◌≡◌, ℕ, ◌++◌, IfOk, OnOk, None, nat_eq, option_map, string_bytes};
 ghost use Rattle.std.specs.HashMap.{get};
 ghost use Rattle.std.specs.List.{position_from};
 ghost use Rattle.run_report.specs.Answers.{answers};
-ghost use Rattle.run_report.specs.Reports.{answers_text, line_answer, wave_text};
+ghost use Rattle.run_report.specs.Ends.{is_ended};
+ghost use Rattle.run_report.specs.Found.{kept};
+ghost use Rattle.run_report.specs.Reports.{answers_text, line_answer, said, wave_text};
 ghost use Rattle.run_report.specs.Words.{words_of};
 
 use crate::answer::{Answer, answer_of};
+use crate::ends::Ends;
+use crate::losses::find_ends;
 use crate::places::{Places, first_answers};
 use rac_nums::NoMemory;
 use row_model::{Entry, Journal};
@@ -16,42 +20,67 @@ use std::alloc::Global;
 pub fn report(alloc: Global, script: &Script, journal: &Journal) -> Result<Vec<u8>, NoMemory>
     ensures { IfOk result (λ text. text.items ≡ answers_text script.now journal.now) }
 {
+    let waves = script.waves().as_slice();
+    let journal = journal.as_slice();
     let places = first_answers(alloc, journal)?;
+    let ends = find_ends(alloc, waves, journal, &places)?;
+    let sources = Sources {
+        journal,
+        places: &places,
+        ends: &ends,
+    };
     let mut text = String::new(alloc);
-    for wave in script.waves().as_slice() {
-        push_wave(&mut text, wave.as_slice(), journal.as_slice(), &places)?;
+    for (number, wave) in waves.iter().enumerate() {
+        push_wave(&mut text, &sources, number, wave.as_slice())?;
     }
     Ok(text.into_bytes())
 }
 
+/// What answers the lines of a script.
+#[derive(Clone, Copy)]
+struct Sources<'a> {
+    journal: &'a [Entry],
+    places: &'a Places,
+    ends: &'a Ends,
+}
+
+/// Tells the lines of a wave that have an answer.
 fn push_wave(
     text: &mut String,
-    wave: &[(u32, Item)],
-    journal: &[Entry],
-    places: &Places,
+    sources: &Sources<'_>,
+    wave: usize,
+    lines: &[(u32, Item)],
 ) -> Result<(), NoMemory>
-    requires { (line : ℕ) → get nat_eq places.now line ≡ position_from (answers line) 0 journal.now }
-    ensures { OnOk result (string_bytes text.new ≡ string_bytes text.old ++ wave_text journal.now wave.now) }
+    requires { (line : ℕ) → get nat_eq sources.now.places.now line ≡ position_from (answers line) 0 sources.now.journal.now }
+    ensures { OnOk result (string_bytes text.new ≡
+        string_bytes text.old ++ wave_text sources.now.journal.now (kept sources.now.ends.now) wave lines.now) }
 {
-    for (line, item) in wave {
-        if let Some(answer) = answer_at(*line, item, journal, places) {
+    for (line, item) in lines {
+        if let Some(answer) = answer_at(sources, wave, *line, item) {
             writeln!(text, "{line}: {answer}")?;
         }
     }
     Ok(())
 }
 
-fn answer_at<'a>(
-    line: u32,
-    item: &Item,
-    journal: &'a [Entry],
-    places: &Places,
-) -> Option<Answer<'a>>
-    requires { (line : ℕ) → get nat_eq places.now line ≡ position_from (answers line) 0 journal.now }
-    ensures { option_map words_of result ≡ line_answer journal.now (line, item.now) }
+/// The answer of a line.
+fn answer_at<'a>(sources: &Sources<'a>, wave: usize, line: u32, item: &Item) -> Option<Answer<'a>>
+    requires { (line : ℕ) → get nat_eq sources.now.places.now line ≡ position_from (answers line) 0 sources.now.journal.now }
+    ensures { option_map words_of result ≡ line_answer sources.now.journal.now (kept sources.now.ends.now) wave (line, item.now) }
 {
-    match places.get(&line) {
-        Some(at) => answer_of(item, &journal[*at]),
-        None => None,
+    match sources.places.get(&line) {
+        Some(at) => answer_of(item, &sources.journal[*at]),
+        None => end_answer(sources, wave, item),
+    }
+}
+
+/// The answer of a line that an instance's end answers.
+fn end_answer<'a>(sources: &Sources<'a>, wave: usize, item: &Item) -> Option<Answer<'a>>
+    ensures { option_map words_of result ≡ said item.now None (is_ended (kept sources.now.ends.now) wave item.now) }
+{
+    if sources.ends.answer(wave, item) {
+        Some(Answer::Word("ended"))
+    } else {
+        None
     }
 }

@@ -28,26 +28,26 @@ loop-at-preserved c =
     let first = get nat_eq c.args.places.now in
     let more = past-more journal at entry (omega arith) c.index-journal-at.is in
     let downs_known = λ (inst : InstNo) (small : inst.0 < 256).
-      c.note_loss.ensures inst small ∙ is_down-more past entry inst (get_or c.loop-at.down inst.0 false) (held.downs_known inst small) in
+    c.note_loss.ensures inst small ∙ is_down-more past entry inst (get_or c.loop-at.down inst.0 false) (held.downs_known inst small) in
     elim c.match-entry.branch [
-      in-Ended+in_ok-add w ↦
-        let ended = w.in-Ended.inst in
-        let small : ended.0 < 256 = search rules in
-        let added = w.in_ok-add.ensures in
-        let settled = w.next_open-cursor.ensures.settled in
-        let cursor = w.next_open-cursor.result in
-        let same_done = current_wave-cong (is_settled first at (kept c.loop-at.ends)) (is_done journal past (ended_in journal waves past)) 0 waves (is_settled-is journal first at (kept c.loop-at.ends) (ended_in journal waves past) c.requires held.ends_found) in
-        let current : current_wave (is_done journal past (ended_in journal waves past)) 0 waves ≡ w.wave_of-wave.result =
+      | in-Ended+in_ok-add w ↦
+          let ended = w.in-Ended.inst in
+          let small : ended.0 < 256 = search rules in
+          let added = w.in_ok-add.ensures in
+          let settled = w.next_open-cursor.ensures.settled in
+          let cursor = w.next_open-cursor.result in
+          let same_done = current_wave-cong (is_settled first at (kept c.loop-at.ends)) (is_done journal past (ended_in journal waves past)) 0 waves (is_settled-is journal first at (kept c.loop-at.ends) (ended_in journal waves past) c.requires held.ends_found) in
+          let current : current_wave (is_done journal past (ended_in journal waves past)) 0 waves ≡ w.wave_of-wave.result =
           sym same_done ∙ current-is _ waves cursor.wave cursor.line settled w.next_open-cursor.ensures.unsettled ∙ sym w.wave_of-wave.ensures in
-        let step = λ (wave : ℕ) (down : Bool) (inst : InstNo).
+          let step = λ (wave : ℕ) (down : Bool) (inst : InstNo).
           added wave down inst ∙ ended_in-end journal waves past ended w.in-Ended.bad w.wave_of-wave.result _ (held.downs_known ended small) current wave down inst _ (held.ends_found wave down inst) in
-        let stays = is_settled-stays first at (kept c.loop-at.ends) (kept w.add.new.self) (λ wave down inst h. or_stays _ _ _ (added wave down inst) h) in
-        record {
-          ends_found = λ wave down inst. rw (more, w.ends-is, w.in-Ended.is) (step wave down inst);
-          downs_known = rw more downs_known;
-          lines_settled = rw (w.ends-is, w.cursor-is) (AreSettled-stay _ _ waves cursor.wave cursor.line stays settled);
-        }
-    | in_default w ↦ record {
+          let stays = is_settled-stays first at (kept c.loop-at.ends) (kept w.add.new.self) (λ wave down inst h. or_stays _ _ _ (added wave down inst) h) in
+          record {
+            ends_found = λ wave down inst. rw (more, w.ends-is, w.in-Ended.is) (step wave down inst);
+            downs_known = rw more downs_known;
+            lines_settled = rw (w.ends-is, w.cursor-is) (AreSettled-stay _ _ waves cursor.wave cursor.line stays settled);
+          }
+      | in_default w ↦ record {
         ends_found = λ wave down inst. rw (more, w.ends-is) (held.ends_found wave down inst ∙ sym (ended_in-other journal waves past entry w.in_default.not-Ended wave down inst));
         downs_known = rw more downs_known;
         lines_settled = rw (w.ends-is, w.cursor-is) (AreSettled-stay _ _ waves c.loop-at.cursor.wave c.loop-at.cursor.line (is_settled-stays first at (kept c.loop-at.ends) (kept c.loop-at.ends) (λ _ _ _ h. h)) held.lines_settled);

@@ -6,5 +6,5 @@ use Rattle.run_report.proofs.places.first_answers.Goals as goal
 
 pub loop-at-preserved : goal.loop-at-preserved
 loop-at-preserved c = λ line.
-    let more = place-more (answers line) c.as_slice-entry-items.result.now c.loop-at.at c.entry-item.result (omega arith) c.entry-item.is in
+    let more = place-more (answers line) c.args.journal.now c.loop-at.at c.index-journal-at.result (omega arith) c.index-journal-at.is in
     grind (arith, common_steps, more, c.loop-at.invariant line)

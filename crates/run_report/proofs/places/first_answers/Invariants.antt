@@ -6,4 +6,4 @@ use Rattle.run_report.proofs.places.first_answers.Given as goal
 
 abbrev pub invariant-loop-at : goal.invariant-loop-at
 invariant-loop-at l =
-    (line : ℕ) → get nat_eq l.places line ≡ position_from (answers line) 0 (take l.at l.entry-items)
+    (line : ℕ) → get nat_eq l.places line ≡ position_from (answers line) 0 (take l.at l.journal)
