@@ -1,3 +1,8 @@
+ghost use Rattle.std.specs.Prelude.{Some};
+ghost use Rattle.rac_nums.specs.Texts.{xid_text};
+
+use std::fmt;
+
 /// A system change number: the place of a redo record or of a transaction's end in the order of all.
 #[derive(Clone, Copy, Debug, PartialEq, Eq, PartialOrd, Ord)]
 pub struct Scn(pub u64);
@@ -25,6 +30,17 @@ pub struct Xid {
     pub seg: InstNo,
     pub slot: u8,
     pub wrap: u32,
+}
+
+impl fmt::Display for Xid {
+    ghost output = { λ x. Some (xid_text x) };
+
+    fn fmt<W: fmt::Write>(&self, f: &mut fmt::Formatter<W>) -> fmt::Result {
+        let seg = self.seg.0;
+        let slot = self.slot;
+        let wrap = self.wrap;
+        write!(f, "{seg}.{slot}.{wrap}")
+    }
 }
 
 /// The name of an undo record: its segment and its sequence number there, from 1.

@@ -7,3 +7,7 @@ mod entry;
 pub use cause::Cause;
 pub use entry::{Entry, Journal, RowList};
 pub use rac_nums::Value;
+
+mod laws;
+
+pub use laws::rows_at_each_place;

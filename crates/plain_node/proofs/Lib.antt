@@ -1,0 +1,6 @@
+pub mod ValueLemmas
+pub mod SoundLemmas
+pub mod StepLemmas
+pub mod LineLemmas
+pub mod FitsLemmas
+pub mod ProperLemmas

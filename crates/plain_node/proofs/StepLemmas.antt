@@ -1,0 +1,143 @@
+-- Each statement that the node answers keeps its state in agreement with its journal.
+use Rattle.std.proofs.Common.{◌≡◌, ◌∙◌, ◌≢◌, ℕ, ◌+◌, ◌<◌, ◌≤◌, List, [], ◌∷◌, ◌++◌, Option, Some, None, unwrap_or, map, reverse, length, slice_set, slice_index_or, MatchOption, IfSome, refl, ap, sym, subst, arith, inl, inr, ◌⊎◌, true, false, ◌==◌}
+use Rattle.std.proofs.lemmas.List.{reverse-append, map-append, get_or-set_same, get_or-set_other}
+use Rattle.std.proofs.lemmas.Bool.Decides.{eqb_tells}
+use Rattle.rac_nums.specs.declared.names.Xid.{Xid}
+use Rattle.rac_nums.specs.declared.names.RowNo.{RowNo}
+use Rattle.rac_nums.specs.declared.names.Scn.{Scn}
+use Rattle.rac_nums.specs.declared.value.Value.{Value}
+use Rattle.row_model.specs.declared.entry.Entry.{Entry}
+use Rattle.row_model.specs.declared.entry.Entry.TheVariants.{Started, Rows, Changed, Marked, Committed, Acked, Plain}
+use Rattle.row_model.specs.Past.{start_of, Start}
+use Rattle.row_model.specs.Standing.{changes_of, standing}
+use Rattle.row_model.specs.Sees.{own, own_changes}
+use Rattle.row_model.specs.Good.{Range}
+use Rattle.plain_node.specs.declared.node.Node.{Node}
+use Rattle.plain_node.specs.declared.slots.SlotUse.{SlotUse}
+use Rattle.plain_node.specs.declared.versions.Pending.{Pending}
+use Rattle.plain_node.specs.declared.versions.Version.{Version}
+use Rattle.plain_node.specs.Slots.{wrap_at, never, next_xid, IsLeastUsed}
+use Rattle.plain_node.specs.Steps.{told, started, got, value_in, begun, IsOwn, changed, Puts, version_at, ended_by, commit_of, committed}
+use Rattle.plain_node.specs.Sound.{Parts, Sound, parts_of, as_pending}
+use Rattle.plain_node.specs.Runs.{IsSound}
+use Rattle.plain_node.proofs.SoundLemmas.{Sound-opened, Sound-plain, Sound-started, start_of-told, Sound-rows, changed as Sound-changed, Sound-committed, wrap_at-ended, own_changes-own}
+
+reverse_push : {A : Type 0} (xs : List A) (x : A) → reverse (xs ++ x ∷ []) ≡ x ∷ reverse xs
+reverse_push xs x = reverse-append xs (x ∷ [])
+
+module _ (asked : ℕ → Option Range) where
+  -- an entry that agrees with the state is told
+  pub IsSound-told : (node : Node) (e : Entry) → Sound asked 0 (e ∷ reverse node.journal) (parts_of node) → IsSound asked (told node e)
+  IsSound-told node e sound = rw (reverse_push node.journal e) sound
+
+  pub IsSound-started : (node : Node) (n : ℕ) → IsSound asked node → IsSound asked (started node n 0)
+  IsSound-started node n sound =
+      IsSound-told node (Started n 0 node.known) (Sound-started asked 0 (reverse node.journal) (parts_of node) n node.known refl sound)
+
+  start-told : (node : Node) (n : ℕ) → start_of n (reverse (started node n 0).journal) ≡ Some (record { session = 0; s = node.known.0 })
+  start-told node n = rw (reverse_push node.journal (Started n 0 node.known)) (start_of-told asked 0 (reverse node.journal) n node.known)
+
+  pub IsSound-got : (node : Node) (n : ℕ) (row : RowNo) → asked n ≡ Some (record { first = row.0; count = 1 }) → IsSound asked node → IsSound asked (got node n 0 row)
+  IsSound-got node n row asks sound =
+      IsSound-told (started node n 0) _
+      (Sound-rows asked 0 (reverse (started node n 0).journal) (parts_of node) n node.known.0 row (value_in node node.known.0 row.0) asks
+      (start-told node n) refl (IsSound-started node n sound))
+
+  -- a slot that was taken was taken once more
+  wrap_at-begun : (node : Node) (k j : ℕ) → k < length node.slots → wrap_at node.slots j ≤ wrap_at (begun node k).slots j
+  wrap_at-begun node k j within = by_place (eqb_tells j k)
+    where
+      taken : SlotUse
+      taken = record { wrap = wrap_at node.slots k + 1; end = (slice_index_or node.slots k never).end }
+
+      by_place : ((j == k) ≡ true) × (j ≡ k) ⊎ ((j == k) ≡ false) × (j ≢ k) → wrap_at node.slots j ≤ wrap_at (begun node k).slots j
+      by_place (inl h) = rw h.1 (let e = ap (λ (u : SlotUse). u.wrap) (get_or-set_same node.slots k taken never within) in omega (arith, e))
+      by_place (inr h) = let e = ap (λ (u : SlotUse). u.wrap) (get_or-set_other node.slots k j taken never h.1) in omega (arith, e)
+
+  wrap_at-taken : (node : Node) (k : ℕ) → k < length node.slots → wrap_at (begun node k).slots k ≡ wrap_at node.slots k + 1
+  wrap_at-taken node k within =
+      ap (λ (u : SlotUse). u.wrap) (get_or-set_same node.slots k (record { wrap = wrap_at node.slots k + 1; end = (slice_index_or node.slots k never).end }) never within)
+
+  -- without an own transaction nothing is pending, and with one what is pending stands
+  pending-none : (node : Node) → node.own ≡ None → IsSound asked node → [] ≡ reverse node.pending
+  pending-none node none sound = rw (sound.own_is ∙ none) at sound.pending
+
+  pending-own : (node : Node) (x : Xid) → node.own ≡ Some x → IsSound asked node → map as_pending (changes_of (standing x (reverse node.journal))) ≡ reverse node.pending
+  pending-own node x is sound =
+      ap (map as_pending) (sym (own_changes-own asked 0 (reverse node.journal) x (sound.own_is ∙ is))) ∙ sound.pending
+
+  -- a change by the transaction x, which is the own one by then
+  change-told : (old mid : Node) (n : ℕ) (x : Xid) (row : RowNo) (value : Value)
+      → IsSound asked (started old n 0)
+      → mid.journal ≡ (started old n 0).journal → mid.scn ≡ old.scn → mid.known ≡ old.known → mid.ended ≡ old.ended → mid.pending ≡ old.pending → mid.own ≡ Some x
+      → map as_pending (changes_of (standing x (reverse (started old n 0).journal))) ≡ reverse old.pending
+      → ((k : ℕ) → wrap_at old.slots k ≤ wrap_at mid.slots k)
+      → (x.slot < 8) × (x.wrap ≤ wrap_at mid.slots x.slot)
+      → IsSound asked (changed mid n x row (value_in old old.known.0 row.0) value)
+  change-told old mid n x row value sound journal scn known ended pending own_is stand wraps used =
+      rw (journal, reverse_push (started old n 0).journal (Changed n x row (value_in old old.known.0 row.0) value))
+      (Sound-changed asked 0 (reverse (started old n 0).journal) (parts_of (started old n 0)) (parts_of (changed mid n x row (value_in old old.known.0 row.0) value))
+      n old.known.0 x row (value_in old old.known.0 row.0) value (start-told old n) refl sound
+      (ap (λ (s : Scn). s.0) known) (let e = ap (λ (s : Scn). s.0) scn in omega arith) (ap reverse ended) own_is
+      (rw (pending, reverse_push old.pending (record { row = row; value = value })) refl) stand wraps used)
+
+  -- the transaction of a put is the open one
+  put-open : (old mid : Node) (n : ℕ) (x : Xid) (row : RowNo) (value : Value) (y : Xid) → old.own ≡ Some y → x ≡ y → mid ≡ started old n 0
+      → IsSound asked (started old n 0) → IsSound asked (changed mid n x row (value_in old old.known.0 row.0) value)
+  put-open old mid n x row value y is same mid_is sound =
+      rw (same, mid_is) (change-told old (started old n 0) n y row value sound refl refl refl refl refl is
+      (pending-own (started old n 0) y is sound) (λ k. omega arith) (rw is at sound.own_used))
+
+  -- the transaction of a put began with it
+  put-first : (old mid : Node) (n : ℕ) (x : Xid) (row : RowNo) (value : Value) (k : ℕ) → old.own ≡ None → length old.slots ≡ 8 → k < length old.slots
+      → x ≡ next_xid old.slots k → mid ≡ begun (started old n 0) k
+      → IsSound asked (started old n 0) → IsSound asked (changed mid n x row (value_in old old.known.0 row.0) value)
+  put-first old mid n x row value k is eight within x_is mid_is sound =
+      rw (x_is, mid_is) (change-told old (begun (started old n 0) k) n (next_xid old.slots k) row value sound refl refl refl refl refl refl
+      (rw (sound.fresh (next_xid old.slots k) (omega arith)) (pending-none (started old n 0) is sound))
+      (λ j. wrap_at-begun (started old n 0) k j within)
+      (omega arith, (let e = wrap_at-taken (started old n 0) k within in omega (arith, e))))
+
+  pub IsSound-put : (old : Node) (n : ℕ) (row : RowNo) (value : Value) (now : Node) → length old.slots ≡ 8 → IsSound asked old → Puts old n 0 row value now → IsSound asked now
+  IsSound-put old n row value now eight sound puts = rw puts.3 (by_own old.own refl puts.2)
+    where
+      x : Xid
+      x = puts.0
+
+      mid : Node
+      mid = puts.1
+
+      by_own : (o : Option Xid) → old.own ≡ o
+          → MatchOption o ((k : ℕ) × IsLeastUsed old.slots k × (x ≡ next_xid old.slots k) × (mid ≡ begun (started old n 0) k)) (λ y. (x ≡ y) × (mid ≡ started old n 0))
+          → IsSound asked (changed mid n x row (value_in old old.known.0 row.0) value)
+      by_own None is h = put-first old mid n x row value h.0 is eight h.1.within h.2 h.3 (IsSound-started old n sound)
+      by_own (Some y) is h = put-open old mid n x row value y is h.0 h.1 (IsSound-started old n sound)
+
+  reverse_map : (c : Scn) (pending : List Pending) → reverse (map (version_at c) pending) ≡ map (version_at c) (reverse pending)
+  reverse_map c [] = refl
+  reverse_map c (p ∷ pending) =
+      reverse-append (version_at c p ∷ []) (map (version_at c) pending)
+      ∙ (ap (λ (vs : List Version). vs ++ version_at c p ∷ []) (reverse_map c pending)
+      ∙ sym (ap (map (version_at c)) (reverse-append (p ∷ []) pending) ∙ map-append (version_at c) (reverse pending) (p ∷ [])))
+
+  pub IsSound-ended : (old : Node) (n : ℕ) (x : Xid) → length old.slots ≡ 8 → x.slot < 8 → old.own ≡ Some x → IsSound asked old → IsSound asked (ended_by old n x)
+  IsSound-ended old n x eight within is sound =
+      rw (
+        reverse_push ((old.journal ++ Marked n x c ∷ []) ++ Committed x c (record { 0 = 0 }) ∷ []) (Acked n x c),
+        reverse_push (old.journal ++ Marked n x c ∷ []) (Committed x c (record { 0 = 0 })),
+        reverse_push old.journal (Marked n x c),
+      )
+      (Sound-committed asked 0 (reverse old.journal) (parts_of old) (parts_of (ended_by old n x)) n x c (record { 0 = 0 })
+      is refl refl refl refl refl
+      (reverse-append old.ended (map (version_at c) old.pending) ∙ ap (λ (vs : List Version). vs ++ reverse old.ended) (reverse_map c old.pending))
+      (λ k. wrap_at-ended asked 0 old.slots x.slot k c (omega arith)) sound)
+    where
+      c : Scn
+      c = record { 0 = old.scn.0 + 1 }
+
+  pub IsSound-committed : (old : Node) (n : ℕ) → length old.slots ≡ 8 → IsSound asked old → IsSound asked (committed old n 0)
+  IsSound-committed old n eight sound = by_own old.own refl
+    where
+      by_own : (o : Option Xid) → old.own ≡ o → IsSound asked (commit_of (started old n 0) n o)
+      by_own None is = IsSound-told (started old n 0) (Plain n) (Sound-plain asked 0 (reverse (started old n 0).journal) (parts_of old) n (IsSound-started old n sound))
+      by_own (Some x) is = IsSound-ended (started old n 0) n x eight (rw is at sound.own_used).0 is (IsSound-started old n sound)

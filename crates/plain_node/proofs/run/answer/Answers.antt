@@ -1,0 +1,65 @@
+-- A statement keeps the state in agreement with the journal; the session is number 0.
+use Rattle.std.proofs.Common.{◌≡◌, ◌∙◌, ap, subst, Option, ℕ}
+use Rattle.std.proofs.lemmas.Result.{on_ok_weaker}
+use Rattle.row_model.specs.Good.{Range}
+use Rattle.plain_node.specs.Asked.{range_asked, range_of}
+use Rattle.plain_node.proofs.StepLemmas.{IsSound-got, IsSound-put, IsSound-committed}
+use Rattle.plain_node.proofs.FitsLemmas.{Fits-opened, Fits-got, Fits-put, Fits-committed}
+use Rattle.plain_node.proofs.run.answer.Goals as goal
+
+pub returns-in-Get-clause-sound : goal.returns-in-Get-clause-sound
+returns-in-Get-clause-sound c =
+    let zero_is = (rw c.in-Stmt.is at c.requires.1.2.2).0 in
+    on_ok_weaker c.get.result
+    (λ e asked asks sound. let e2 = rw zero_is at e in rw e2
+    (IsSound-got asked c.args.node.now c.args.line c.in-Get.row (asks ∙ (ap range_asked c.in-Stmt.is ∙ ap range_of c.in-Get.is)) sound))
+    c.get.ensures
+
+pub returns-in-Put-clause-sound : goal.returns-in-Put-clause-sound
+returns-in-Put-clause-sound c =
+    let zero_is = (rw c.in-Stmt.is at c.requires.1.2.2).0 in
+    on_ok_weaker c.put.result
+    (λ puts asked asks sound.
+    IsSound-put asked c.args.node.now c.args.line c.in-Put.row c.in-Put.value c.put.new.self c.requires.1.1.slots sound (rw zero_is at puts))
+    c.put.ensures
+
+pub returns-in-Commit-clause-sound : goal.returns-in-Commit-clause-sound
+returns-in-Commit-clause-sound c =
+    let zero_is = (rw c.in-Stmt.is at c.requires.1.2.2).0 in
+    on_ok_weaker c.commit.result
+    (λ e asked asks sound. let e2 = rw zero_is at e in rw e2 (IsSound-committed asked c.args.node.now c.args.line c.requires.1.1.slots sound))
+    c.commit.ensures
+
+pub returns-in-Session-clause-runs : goal.returns-in-Session-clause-runs
+returns-in-Session-clause-runs c =
+    on_ok_weaker c.open.result
+      (λ e more can. rw e
+        (c.args.line,
+         Fits-opened can.0 c.args.line c.in-Session.session c.in-Session.inst c.args.node.now can.2.0 can.1,
+         (rw c.in-Session.is at can.2).3))
+      c.open.ensures
+
+pub returns-in-Get-clause-runs : goal.returns-in-Get-clause-runs
+returns-in-Get-clause-runs c =
+    on_ok_weaker c.get.result
+      (λ e more can. rw e
+        (c.args.line,
+         Fits-got can.0 c.args.line c.in-Stmt.session c.in-Get.row c.args.node.now can.2.0 can.1,
+         (rw c.in-Stmt.is at can.2).3))
+      c.get.ensures
+
+pub returns-in-Put-clause-runs : goal.returns-in-Put-clause-runs
+returns-in-Put-clause-runs c =
+    on_ok_weaker c.put.result
+      (λ puts more can.
+        let fits = Fits-put can.0 c.args.line c.in-Stmt.session c.in-Put.row c.in-Put.value c.args.node.now c.put.new.self can.2.0 can.1 puts in
+        (c.args.line, fits.0, rw fits.1 (rw c.in-Stmt.is at can.2).3))
+      c.put.ensures
+
+pub returns-in-Commit-clause-runs : goal.returns-in-Commit-clause-runs
+returns-in-Commit-clause-runs c =
+    on_ok_weaker c.commit.result
+      (λ e more can.
+        let fits = Fits-committed can.0 c.args.line c.in-Stmt.session c.args.node.now can.2.0 can.1 in
+        rw e (c.args.line, fits.0, rw fits.1 (rw c.in-Stmt.is at can.2).3))
+      c.commit.ensures

@@ -1,0 +1,6 @@
+pub mod Versions
+pub mod Slots
+pub mod Steps
+pub mod Sound
+pub mod Asked
+pub mod Runs

@@ -1,0 +1,9 @@
+//! The plainest run of a script: one instance, one session, and a list of versions in memory.
+#![tactic(auto)]
+
+mod node;
+mod run;
+mod slots;
+mod versions;
+
+pub use run::run_script;

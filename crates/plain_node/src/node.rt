@@ -1,0 +1,216 @@
+ghost use Rattle.std.specs.Prelude.{Option, None};
+ghost use Rattle.row_model.specs.Good.{Range};
+ghost use Rattle.plain_node.specs.Runs.{Fits, IsSound, IsProper};
+ghost use Rattle.std.specs.Prelude.{◌≡◌, ℕ, ◌+◌, ◌^◌, ◌<◌, ◌≤◌, length, IsOkAnd, IfOk, OnOk, IsNone, MatchOption, Some, None, reverse};
+ghost use Rattle.std.specs.Prelude.{[]};
+ghost use Rattle.row_model.specs.Good.{listed_before};
+ghost use Rattle.std.specs.Prelude.{◌∷◌, ◌++◌, map, IfSome};
+ghost use Rattle.plain_node.specs.Slots.{wrap_at, IsLeastUsed, next_xid};
+ghost use Rattle.plain_node.specs.Steps.{value_in, opened, started, got, begun, IsOwn, Puts, version_at, ended_by, committed};
+
+use crate::slots::{SlotUse, least_used};
+use crate::versions::{Pending, Version, newest_ended, newest_pending};
+use rac_nums::{InstNo, NoMemory, RowNo, Scn, Sequence, Value, Xid};
+use row_model::{Entry, Journal, RowList};
+use std::alloc::Global;
+
+/// The one instance, what its one session has open, and the journal so far.
+#[derive(Drop)]
+pub struct Node {
+    /// The SCN of the last redo record.
+    pub scn: Scn,
+    /// The highest SCN of a commit.
+    pub known: Scn,
+    pub slots: [SlotUse; 8],
+    /// The instance that the session is on, once it was opened.
+    pub home: Option<InstNo>,
+    /// The open transaction.
+    pub own: Option<Xid>,
+    /// Its changes.
+    pub pending: Sequence<Pending>,
+    pub ended: Sequence<Version>,
+    pub journal: Journal,
+}
+
+impl Node {
+    pub fn new(alloc: Global) -> Node
+        ensures journal { result.journal ≡ [] }
+        ensures home { result.home ≡ None }
+        ensures fits { Fits 0 result }
+        ensures sound { (asked : ℕ → Option Range) → IsSound asked result }
+        ensures proper { IsProper result }
+    {
+        let never = SlotUse {
+            wrap: 0,
+            end: Scn(0),
+        };
+        Node {
+            scn: Scn(0),
+            known: Scn(0),
+            slots: [never; 8],
+            home: None,
+            own: None,
+            pending: Sequence::new(alloc),
+            ended: Sequence::new(alloc),
+            journal: Journal::new(alloc),
+        }
+    }
+
+    /// What a row holds for the session at `s`: its own newest change, else the newest version up to `s`.
+    fn value(&self, row: RowNo, s: Scn) -> Value
+        ensures { result ≡ value_in self.now s.0 row.0 }
+    {
+        match newest_pending(self.pending.as_slice(), row) {
+            Some(value) => value,
+            None => newest_ended(self.ended.as_slice(), row, s).unwrap_or(Value::Absent),
+        }
+    }
+
+    /// Opens the session.
+    pub fn open(&mut self, session: u16, inst: InstNo) -> Result<(), NoMemory>
+        ensures { OnOk result (self.new ≡ opened self.old session inst) }
+    {
+        self.home = Some(inst);
+        self.journal.push(Entry::Opened { session, inst })
+    }
+
+    /// Starts a statement at what is known.
+    fn start(&mut self, stmt: u32, session: u16) -> Result<Scn, NoMemory>
+        ensures s { IfOk result (λ s. s ≡ self.old.known) }
+        ensures started { OnOk result (self.new ≡ started self.old stmt session) }
+    {
+        let s = self.known;
+        self.journal.push(Entry::Started { stmt, session, s })?;
+        Ok(s)
+    }
+
+    /// Answers a get.
+    pub fn get(
+        &mut self,
+        alloc: Global,
+        stmt: u32,
+        session: u16,
+        row: RowNo,
+    ) -> Result<(), NoMemory>
+        ensures { OnOk result (self.new ≡ got self.old stmt session row) }
+    {
+        let s = self.start(stmt, session)?;
+        let value = self.value(row, s);
+        let rows = one_row(alloc, row, value)?;
+        self.journal.push(Entry::Rows { stmt, rows })
+    }
+
+    /// Begins a transaction in the slot whose last one ended first, of several the lowest.
+    fn begin(&mut self) -> Xid
+        requires { (k : ℕ) → k < 8 → wrap_at self.old.slots k + 1 < 2 ^ 32 }
+        ensures { (k : ℕ) × IsLeastUsed self.old.slots k
+            × (result ≡ next_xid self.old.slots k) × (self.new ≡ begun self.old k) }
+    {
+        let at = least_used(&self.slots);
+        self.slots[at].wrap += 1;
+        let xid = Xid {
+            seg: InstNo(0),
+            slot: at as u8,
+            wrap: self.slots[at].wrap,
+        };
+        self.own = Some(xid);
+        xid
+    }
+
+    /// The open transaction, begun where there is none.
+    fn own_or_new(&mut self) -> Xid
+        requires { (k : ℕ) → k < 8 → wrap_at self.old.slots k + 1 < 2 ^ 32 }
+        ensures { IsOwn self.old result self.new }
+    {
+        match self.own {
+            Some(xid) => xid,
+            None => self.begin(),
+        }
+    }
+
+    /// Answers a put.
+    pub fn put(&mut self, stmt: u32, session: u16, row: RowNo, new: Value) -> Result<(), NoMemory>
+        requires wraps { (k : ℕ) → k < 8 → wrap_at self.old.slots k + 1 < 2 ^ 32 }
+        requires scn { self.old.scn.0 + 1 < 2 ^ 64 }
+        ensures { OnOk result (Puts self.old stmt session row new self.new) }
+    {
+        let s = self.start(stmt, session)?;
+        let found = self.value(row, s);
+        let xid = self.own_or_new();
+        self.scn.0 += 1;
+        self.journal.push(Entry::Changed {
+            stmt,
+            xid,
+            row,
+            found,
+            new,
+        })?;
+        self.pending.push(Pending { row, value: new })
+    }
+
+    /// Answers a commit.
+    pub fn commit(&mut self, alloc: Global, stmt: u32, session: u16) -> Result<(), NoMemory>
+        requires scn { self.old.scn.0 + 1 < 2 ^ 64 }
+        requires slot { IfSome self.old.own (λ x. x.slot < 8) }
+        ensures { OnOk result (self.new ≡ committed self.old stmt session) }
+    {
+        let _s = self.start(stmt, session)?;
+        match self.own {
+            None => self.journal.push(Entry::Plain { stmt }),
+            Some(xid) => self.end(alloc, stmt, xid),
+        }
+    }
+
+    /// Makes the end record of the open transaction.
+    fn end(&mut self, alloc: Global, stmt: u32, xid: Xid) -> Result<(), NoMemory>
+        requires scn { self.old.scn.0 + 1 < 2 ^ 64 }
+        requires slot { xid.slot < 8 }
+        ensures { OnOk result (self.new ≡ ended_by self.old stmt xid) }
+    {
+        self.scn.0 += 1;
+        let c = self.scn;
+        self.journal.push(Entry::Marked { stmt, xid, c })?;
+        self.journal.push(Entry::Committed {
+            xid,
+            c,
+            inst: InstNo(0),
+        })?;
+        self.journal.push(Entry::Acked { stmt, xid, c })?;
+        append_versions(&mut self.ended, self.pending.as_slice(), c)?;
+        self.pending = Sequence::new(alloc);
+        self.slots[xid.slot as usize].end = c;
+        self.own = None;
+        self.known = c;
+        Ok(())
+    }
+}
+
+/// Adds what was pending to the versions, as ended at `c`.
+fn append_versions(
+    ended: &mut Sequence<Version>,
+    pending: &[Pending],
+    c: Scn,
+) -> Result<(), NoMemory>
+    ensures { OnOk result (ended.new ≡ ended.old ++ map (version_at c) pending.now) }
+{
+    for change in pending {
+        ended.push(Version {
+            row: change.row,
+            value: change.value,
+            c,
+        })?;
+    }
+    Ok(())
+}
+
+/// A row with its value, and nothing where it is absent.
+fn one_row(alloc: Global, row: RowNo, value: Value) -> Result<RowList, NoMemory>
+    ensures { IfOk result (λ rows. rows ≡ listed_before row.0 value []) }
+{
+    let mut rows = RowList::new(alloc);
+    match value {
+        Value::Absent => {}
+        Value::Num(_) => rows.push((row, value))?,
+    }
+    Ok(rows)
+}

@@ -1,0 +1,42 @@
+ghost use Rattle.std.specs.Prelude.{◌≡◌, ◌==◌, ◌&&◌, nat_le, reverse, find};
+ghost use Rattle.std.specs.Option.{option_map};
+ghost use Rattle.plain_node.specs.Versions.{pending_value, ended_value};
+
+use rac_nums::{RowNo, Scn, Value};
+
+/// What a row got by a change of a transaction that is open.
+#[derive(Clone, Copy, Debug, PartialEq, Eq)]
+pub struct Pending {
+    pub row: RowNo,
+    pub value: Value,
+}
+
+/// What a row got by a change of a transaction that committed at `c`.
+#[derive(Clone, Copy, Debug, PartialEq, Eq)]
+pub struct Version {
+    pub row: RowNo,
+    pub value: Value,
+    pub c: Scn,
+}
+
+/// What the newest of the pending changes put into a row.
+pub fn newest_pending(pending: &[Pending], row: RowNo) -> Option<Value>
+    ensures { result ≡ pending_value row.0 (reverse pending.now) }
+{
+    pending
+        .iter()
+        .rev()
+        .find(|change| change.row.0 == row.0)
+        .map(|change| change.value)
+}
+
+/// What the newest of the versions that ended at `s` or before put into a row.
+pub fn newest_ended(ended: &[Version], row: RowNo, s: Scn) -> Option<Value>
+    ensures { result ≡ ended_value s.0 row.0 (reverse ended.now) }
+{
+    ended
+        .iter()
+        .rev()
+        .find(|version| version.row.0 == row.0 && version.c.0 <= s.0)
+        .map(|version| version.value)
+}
