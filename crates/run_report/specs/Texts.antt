@@ -2,9 +2,8 @@
 use Rattle.std.specs.Prelude.{ℕ, List, [], ◌∷◌, ◌++◌, Option, Some, None, codes, decimal, flat_map}
 use Rattle.std.specs.Fmt.{signed_decimal}
 use Rattle.rac_nums.specs.declared.names.RowNo.{RowNo}
-use Rattle.rac_nums.specs.declared.names.Xid.{Xid}
 use Rattle.rac_nums.specs.declared.value.Value.{Value}
-use Rattle.rac_nums.specs.declared.value.Value.TheVariants.{Absent, Num}
+use Rattle.rac_nums.specs.Texts.{value_text, xid_text}
 use Rattle.row_model.specs.declared.cause.Cause.{Cause}
 use Rattle.row_model.specs.declared.cause.Cause.TheVariants.{Busy, OldUndo, OldSlot, NoUndo, NoTxnSlot, NoItl, Overflow, NoSavepoint, Lost, NotConnected}
 
@@ -12,15 +11,6 @@ use Rattle.row_model.specs.declared.cause.Cause.TheVariants.{Busy, OldUndo, OldS
 infixr 8 ◌⧺◌
 abbrev pub ◌⧺◌ : List ℕ → List ℕ → List ℕ
 text ⧺ others = text ++ others
-
--- A value prints as its signed decimal number, or as `absent`.
-abbrev pub value_text : Value → List ℕ
-value_text Absent = codes "absent"
-value_text (Num n) = signed_decimal n
-
--- The name of a transaction prints as its segment, its slot and its wrap, with dots between.
-abbrev pub xid_text : Xid → List ℕ
-xid_text x = decimal x.seg.0 ⧺ codes "." ⧺ decimal x.slot ⧺ codes "." ⧺ decimal x.wrap
 
 -- A row prints with its value.
 abbrev pub row_text : RowNo × Value → List ℕ

@@ -1,39 +1,9 @@
 ghost use Rattle.std.specs.Prelude.{Some};
-ghost use Rattle.run_report.specs.Texts.{cause_text, row_text, rows_text, value_text, xid_text};
+ghost use Rattle.run_report.specs.Texts.{cause_text, row_text, rows_text};
 
-use rac_nums::{RowNo, Value, Xid};
+use rac_nums::{RowNo, Value};
 use row_model::{Cause, RowList};
 use std::fmt;
-
-/// Prints the name of a transaction.
-#[derive(Clone, Copy)]
-pub(crate) struct XidText(pub(crate) Xid);
-
-impl fmt::Display for XidText {
-    ghost output = { λ t. Some (xid_text t.0) };
-
-    fn fmt<W: fmt::Write>(&self, f: &mut fmt::Formatter<W>) -> fmt::Result {
-        let seg = self.0.seg.0;
-        let slot = self.0.slot;
-        let wrap = self.0.wrap;
-        write!(f, "{seg}.{slot}.{wrap}")
-    }
-}
-
-/// Prints a value.
-#[derive(Clone, Copy)]
-pub(crate) struct ValueText(pub(crate) Value);
-
-impl fmt::Display for ValueText {
-    ghost output = { λ t. Some (value_text t.0) };
-
-    fn fmt<W: fmt::Write>(&self, f: &mut fmt::Formatter<W>) -> fmt::Result {
-        match self.0 {
-            Value::Absent => write!(f, "absent"),
-            Value::Num(number) => write!(f, "{number}"),
-        }
-    }
-}
 
 /// Prints a row with its value.
 #[derive(Clone, Copy)]
@@ -44,7 +14,6 @@ impl fmt::Display for RowText {
 
     fn fmt<W: fmt::Write>(&self, f: &mut fmt::Formatter<W>) -> fmt::Result {
         let (RowNo(row), value) = self.0;
-        let value = ValueText(value);
         write!(f, "{row}={value}")
     }
 }
@@ -79,18 +48,12 @@ impl fmt::Display for CauseText<'_> {
 
     fn fmt<W: fmt::Write>(&self, f: &mut fmt::Formatter<W>) -> fmt::Result {
         match self.0 {
-            Cause::Busy { xid } => {
-                let xid = XidText(*xid);
-                write!(f, "ORA-00054 xid {xid}")
-            }
-            Cause::OldUndo { xid, wanted, found } => {
-                let xid = XidText(*xid);
-                write!(f, "ORA-01555 undo {xid} wanted {wanted} found {found}")
-            }
-            Cause::OldSlot { xid, found } => {
-                let xid = XidText(*xid);
-                write!(f, "ORA-01555 slot {xid} found {found}")
-            }
+            Cause::Busy { xid } => write!(f, "ORA-00054 xid {xid}"),
+            Cause::OldUndo { xid, wanted, found } => write!(
+                f,
+                "ORA-01555 undo {xid} wanted {wanted} found {found}"
+            ),
+            Cause::OldSlot { xid, found } => write!(f, "ORA-01555 slot {xid} found {found}"),
             Cause::NoUndo { first, next } => write!(f, "ORA-30036 first {first} next {next}"),
             Cause::NoTxnSlot { inst } => {
                 let inst = inst.0;
