@@ -3,3 +3,4 @@ mod Current
 mod Settled
 mod EndSteps
 mod Wholes
+mod Members

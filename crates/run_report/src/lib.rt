@@ -2,11 +2,14 @@
 #![tactic(auto)]
 
 mod answer;
+mod counts;
 mod ends;
+mod journal;
 mod losses;
 mod places;
 mod texts;
 mod told;
 mod waves;
 
+pub use counts::summary;
 pub use told::report;
