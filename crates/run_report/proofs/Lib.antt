@@ -4,3 +4,4 @@ mod Settled
 mod EndSteps
 mod Wholes
 mod Members
+mod Counting

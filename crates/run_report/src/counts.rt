@@ -29,10 +29,12 @@ pub fn summary(alloc: Global, journal: &Journal) -> Result<Vec<u8>, NoMemory>
 fn count_statements(alloc: Global, entries: &[Entry]) -> Result<usize, NoMemory>
     ensures { IfOk result (λ count. count ≡ distinct_count nat_eq (filter_map answered_statement entries.now)) }
 {
-    let lines: HashSet<u32> = entries
-        .iter()
-        .filter_map(answered_statement)
-        .collect(alloc)?;
+    let mut lines: HashSet<u32> = HashSet::new(alloc);
+    for entry in entries {
+        if let Some(line) = answered_statement(entry) {
+            lines.insert(line)?;
+        }
+    }
     Ok(lines.len())
 }
 
@@ -72,10 +74,12 @@ fn is_refused(entry: &Entry) -> bool
 fn newest_rows(entries: &[Entry]) -> &[(RowNo, Value)]
     ensures { result.now ≡ newest_rows (reverse entries.now) }
 {
-    for entry in entries.iter().rev() {
-        if let Entry::Rows { rows, .. } = entry {
+    let mut left = entries;
+    while let Some((last, before)) = left.split_last() {
+        if let Entry::Rows { rows, .. } = last {
             return rows.as_slice();
         }
+        left = before;
     }
     &[]
 }
