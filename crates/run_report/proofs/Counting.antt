@@ -12,12 +12,13 @@ pub seen-more : {X : Type 0} (f : X → Option ℕ) (xs : List X) (i : ℕ) (x :
 seen-more f xs i x q within at_i =
     let more = take_more xs i x within in
     rw (more, ← at_i)
-      (ap (list_any (nat_eq q)) (filter_map-append f (take i xs) (x ∷ [])) ∙ list_any-append (nat_eq q) (filter_map f (take i xs)) _
-        ∙ ap (λ b. list_any (nat_eq q) (filter_map f (take i xs)) || b) (one (f x)))
+    (ap (list_any (nat_eq q)) (filter_map-append f (take i xs) (x ∷ [])) ∙ list_any-append (nat_eq q) (filter_map f (take i xs)) _
+    ∙ ap (λ b. list_any (nat_eq q) (filter_map f (take i xs)) || b) (one (f x)))
   where
     or_false : (b : Bool) → (b || false) ≡ b
     or_false true = refl
     or_false false = refl
+
     one : (r : Option ℕ) → list_any (nat_eq q) (cons_option r []) ≡ option_map_or (nat_eq q) r false
     one None = refl
     one (Some y) = or_false (nat_eq q y)

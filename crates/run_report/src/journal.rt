@@ -1,4 +1,4 @@
-ghost use Rattle.std.specs.Prelude.{◌≡◌, ◌++◌, ◌<◌, OnOk, Some, string_bytes};
+ghost use Rattle.std.specs.Prelude.{All, flat_map, ◌≡◌, ◌++◌, ◌<◌, OnOk, Some, string_bytes};
 ghost use Rattle.run_report.specs.Journals.{HasSession, entry_text, inst_text, journal_line, member_text, members_text, name_of, xid_entry_text};
 
 use crate::texts::{CauseText, RowsText};
@@ -7,8 +7,23 @@ use row_model::Entry;
 use script_text::Script;
 use std::fmt;
 
+/// Adds a line for each entry of a journal.
+pub(crate) fn push_lines(
+    text: &mut String,
+    script: &Script,
+    journal: &[Entry],
+) -> Result<(), NoMemory>
+    requires { All (HasSession script.now) journal.now }
+    ensures { OnOk result (string_bytes text.new ≡ string_bytes text.old ++ flat_map (journal_line script.now) journal.now) }
+{
+    for entry in journal {
+        push_line(text, script, entry)?;
+    }
+    Ok(())
+}
+
 /// Adds the line that tells an entry.
-pub(crate) fn push_line(text: &mut String, script: &Script, entry: &Entry) -> Result<(), NoMemory>
+fn push_line(text: &mut String, script: &Script, entry: &Entry) -> Result<(), NoMemory>
     requires { HasSession script.now entry.now }
     ensures { OnOk result (string_bytes text.new ≡ string_bytes text.old ++ journal_line script.now entry.now) }
 {

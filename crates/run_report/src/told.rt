@@ -1,27 +1,46 @@
-ghost use Rattle.std.specs.Prelude.{◌≡◌, ℕ, ◌++◌, IfOk, OnOk, None, nat_eq, option_map, string_bytes};
+ghost use Rattle.std.specs.Prelude.{All, ◌≡◌, ℕ, ◌++◌, IfOk, OnOk, None, nat_eq, option_map, string_bytes};
 ghost use Rattle.std.specs.HashMap.{get};
 ghost use Rattle.std.specs.List.{position_from};
 ghost use Rattle.run_report.specs.Answers.{answers};
 ghost use Rattle.run_report.specs.Ends.{is_ended};
 ghost use Rattle.run_report.specs.Found.{kept};
-ghost use Rattle.run_report.specs.Reports.{answers_text, line_answer, said, wave_text};
+ghost use Rattle.run_report.specs.Journals.{HasSession};
+ghost use Rattle.run_report.specs.Reports.{answers_text, line_answer, report_text, said, wave_text};
 ghost use Rattle.run_report.specs.Words.{words_of};
 
 use crate::answer::{Answer, answer_of};
 use crate::ends::Ends;
+use crate::journal::push_lines;
 use crate::losses::find_ends;
 use crate::places::{Places, first_answers};
 use rac_nums::NoMemory;
 use row_model::{Entry, Journal};
-use script_text::{Item, Script};
+use script_text::{Item, Script, Wave};
 use std::alloc::Global;
 
-/// The report of a run.
-pub fn report(alloc: Global, script: &Script, journal: &Journal) -> Result<Vec<u8>, NoMemory>
-    ensures { IfOk result (λ text. text.items ≡ answers_text script.now journal.now) }
+/// The report of a run: a line for each statement or control line with an answer, in the order of the
+/// script. Where the journal is asked for, a line for each of its entries follows.
+pub fn report(
+    alloc: Global,
+    script: &Script,
+    journal: &Journal,
+    with_journal: bool,
+) -> Result<Vec<u8>, NoMemory>
+    requires { All (HasSession script.now) journal.now }
+    ensures { IfOk result (λ text. text.items ≡ report_text script.now journal.now with_journal) }
 {
     let waves = script.waves().as_slice();
-    let journal = journal.as_slice();
+    let mut text = tell_waves(alloc, waves, journal.as_slice())?;
+    if with_journal {
+        push_lines(&mut text, script, journal.as_slice())?;
+    }
+    Ok(text.into_bytes())
+}
+
+/// Tells the lines of a script's waves that have an answer.
+fn tell_waves(alloc: Global, waves: &[Wave], journal: &[Entry]) -> Result<String, NoMemory>
+    ensures { IfOk result (λ text. string_bytes text ≡ answers_text waves.now journal.now) }
+{
     let places = first_answers(alloc, journal)?;
     let ends = find_ends(alloc, waves, journal, &places)?;
     let sources = Sources {
@@ -33,7 +52,7 @@ pub fn report(alloc: Global, script: &Script, journal: &Journal) -> Result<Vec<u
     for (number, wave) in waves.iter().enumerate() {
         push_wave(&mut text, &sources, number, wave.as_slice())?;
     }
-    Ok(text.into_bytes())
+    Ok(text)
 }
 
 /// What answers the lines of a script.

@@ -14,13 +14,13 @@ loop-entry-preserved c = λ line.
     let seen = list_any (nat_eq line) (filter_map answered_statement (take c.loop-entry.entry-index c.args.entries.now)) in
     let more = seen-more answered_statement c.args.entries.now c.loop-entry.entry-index c.entry-item.result line (omega arith) c.entry-item.is in
     elim c.match-answered_statement.branch [
-      in-Some+in_ok-insert w ↦
-        let answer : answered_statement c.entry-item.result ≡ Some w.in-Some.line = sym w.in-Some.ensures in
-        rw (more, w.lines-is, answer)
+      | in-Some+in_ok-insert w ↦
+          let answer : answered_statement c.entry-item.result ≡ Some w.in-Some.line = sym w.in-Some.ensures in
+          rw (more, w.lines-is, answer)
           (w.in_ok-insert.ensures.updates.0 line ∙ put-either w.in-Some.line line _ ∙ ap (λ b. b || nat_eq line w.in-Some.line) (c.loop-entry.invariant line))
-    | in_default w ↦
-        let answer : answered_statement c.entry-item.result ≡ None = sym w.in_default.ensures in
-        rw (more, w.lines-is, answer) (c.loop-entry.invariant line ∙ or_none seen)
+      | in_default w ↦
+          let answer : answered_statement c.entry-item.result ≡ None = sym w.in_default.ensures in
+          rw (more, w.lines-is, answer) (c.loop-entry.invariant line ∙ or_none seen)
     ]
 
 pub returns : goal.returns
@@ -28,4 +28,4 @@ returns c =
     let all : take c.loop-entry.entry-index c.args.entries.now ≡ c.args.entries.now = take_all c.loop-entry.entry-index c.args.entries.now (omega arith) in
     c.len.ensures.len
     ∙ length-from_keys nat_eq_equiv c.loop-entry.lines.keys (filter_map answered_statement c.args.entries.now) c.len.ensures.unique
-      (λ line. c.loop-entry.invariant line ∙ ap (λ xs. list_any (nat_eq line) (filter_map answered_statement xs)) all)
+    (λ line. c.loop-entry.invariant line ∙ ap (λ xs. list_any (nat_eq line) (filter_map answered_statement xs)) all)

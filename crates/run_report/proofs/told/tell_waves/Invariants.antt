@@ -2,7 +2,7 @@ use Rattle.std.proofs.Common.{◌≡◌, string_bytes, take, flat_map}
 use Rattle.std.specs.List.{enumerate_from}
 use Rattle.run_report.specs.Found.{kept}
 use Rattle.run_report.specs.Reports.{wave_text}
-use Rattle.run_report.proofs.told.report.Given as goal
+use Rattle.run_report.proofs.told.tell_waves.Given as goal
 
 abbrev pub invariant-loop-number : goal.invariant-loop-number
 invariant-loop-number l =
