@@ -29,6 +29,7 @@ wrap_at-begun slots k j end within = by_place (eqb_tells j k)
   where
     taken : SlotUse
     taken = record { wrap = wrap_at slots k + 1; end = end }
+
     by_place : ((j == k) ≡ true) × (j ≡ k) ⊎ ((j == k) ≡ false) × (j ≢ k) → wrap_at (slice_set slots k taken) j ≤ wrap_at slots j + 1
     by_place (inl h) = rw h.1 (let e = ap (λ (u : SlotUse). u.wrap) (get_or-set_same slots k taken never within) in omega (arith, e))
     by_place (inr h) = let e = ap (λ (u : SlotUse). u.wrap) (get_or-set_other slots k j taken never h.1) in omega (arith, e)
@@ -37,19 +38,25 @@ Fits-changed : (last n z : ℕ) (row : RowNo) (found value : Value) (node mid : 
     → MatchOption o ((k : ℕ) × IsLeastUsed node.slots k × (x ≡ next_xid node.slots k) × (mid ≡ begun (started node n z) k)) (λ y. (x ≡ y) × (mid ≡ started node n z))
     → Fits n (changed mid n x row found value) × ((changed mid n x row found value).home ≡ node.home)
 Fits-changed last n z row found value node mid x None rise fits is h =
-    rw h.3 (record {
+    rw h.3 (
+      record {
         scn = (let e = fits.scn in omega arith);
         slots = length-set node.slots h.0 (record { wrap = wrap_at node.slots h.0 + 1; end = (slice_index_or node.slots h.0 never).end }) ∙ fits.slots;
         wraps = λ k small. (let e = fits.wraps k small in let up = wrap_at-begun node.slots h.0 k (slice_index_or node.slots h.0 never).end h.1.within in omega arith);
         own = (let e = h.1.within in let eight = fits.slots in omega arith);
-      }, refl)
+      },
+      refl,
+    )
 Fits-changed last n z row found value node mid x (Some y) rise fits is h =
-    rw h.1 (record {
+    rw h.1 (
+      record {
         scn = (let e = fits.scn in omega arith);
         slots = fits.slots;
         wraps = λ k small. (let e = fits.wraps k small in omega arith);
         own = fits.own;
-      }, refl)
+      },
+      refl,
+    )
 
 pub Fits-put : (last n z : ℕ) (row : RowNo) (value : Value) (node now : Node) → last < n → Fits last node → Puts node n z row value now → Fits n now × (now.home ≡ node.home)
 Fits-put last n z row value node now rise fits puts =
@@ -63,10 +70,12 @@ Fits-committed last n z node rise fits = by_own node.own refl
         (record { scn = (let h = fits.scn in omega arith); slots = fits.slots; wraps = λ k small. (let h = fits.wraps k small in omega arith); own = fits.own }, refl)
     by_own (Some x) is =
         let small_x : x.slot < 8 = rw is at fits.own in
-        let eight = fits.slots in
-        (record {
+        let eight = fits.slots in (
+          record {
             scn = (let h = fits.scn in omega arith);
             slots = length-set node.slots x.slot (record { wrap = wrap_at node.slots x.slot; end = record { 0 = node.scn.0 + 1 } }) ∙ fits.slots;
             wraps = λ k small. (let h = fits.wraps k small in let e = wrap_at-ended (λ _. None) 0 node.slots x.slot k (record { 0 = node.scn.0 + 1 }) (omega arith) in omega (arith, e));
             own = tt;
-          }, refl)
+          },
+          refl,
+        )

@@ -84,8 +84,16 @@ module _ (asked : ℕ → Option Range) (z : ℕ) where
       → Sound asked z past node → Proper z past node → Proper z (Started n z s ∷ past) node
   Proper-started past node n s at opened sound proper =
       record {
-        home = proper.home; at_home = proper.at_home; up = proper.up; stays = proper.stays; acked = proper.acked;
-        unused = proper.unused; own_new = proper.own_new; above = proper.above; alone = proper.alone; replays = proper.replays;
+        home = proper.home;
+        at_home = proper.at_home;
+        up = proper.up;
+        stays = proper.stays;
+        acked = proper.acked;
+        unused = proper.unused;
+        own_new = proper.own_new;
+        above = proper.above;
+        alone = proper.alone;
+        replays = proper.replays;
         commits = (tt, proper.commits);
         acknowledgements = (tt, proper.acknowledgements);
         starts = ((let le = proper.acked in omega arith, (let a = started_up_to-le z past in let b = sound.starts in omega arith), by_home node.home opened proper.home proper.at_home), proper.starts);
@@ -100,8 +108,16 @@ module _ (asked : ℕ → Option Range) (z : ℕ) where
   pub Proper-rows : (past : Past) (node : Parts) (n : ℕ) (rows : List (RowNo × Value)) → Proper z past node → Proper z (Rows n rows ∷ past) node
   Proper-rows past node n rows proper =
       record {
-        home = proper.home; at_home = proper.at_home; up = proper.up; stays = proper.stays; acked = proper.acked;
-        unused = proper.unused; own_new = proper.own_new; above = proper.above; alone = proper.alone; replays = proper.replays;
+        home = proper.home;
+        at_home = proper.at_home;
+        up = proper.up;
+        stays = proper.stays;
+        acked = proper.acked;
+        unused = proper.unused;
+        own_new = proper.own_new;
+        above = proper.above;
+        alone = proper.alone;
+        replays = proper.replays;
         commits = (tt, proper.commits);
         acknowledgements = (tt, proper.acknowledgements);
         starts = (tt, proper.starts);
@@ -111,8 +127,16 @@ module _ (asked : ℕ → Option Range) (z : ℕ) where
   pub Proper-plain : (past : Past) (node : Parts) (n : ℕ) → Proper z past node → Proper z (Plain n ∷ past) node
   Proper-plain past node n proper =
       record {
-        home = proper.home; at_home = proper.at_home; up = proper.up; stays = proper.stays; acked = proper.acked;
-        unused = proper.unused; own_new = proper.own_new; above = proper.above; alone = proper.alone; replays = proper.replays;
+        home = proper.home;
+        at_home = proper.at_home;
+        up = proper.up;
+        stays = proper.stays;
+        acked = proper.acked;
+        unused = proper.unused;
+        own_new = proper.own_new;
+        above = proper.above;
+        alone = proper.alone;
+        replays = proper.replays;
         commits = (tt, proper.commits);
         acknowledgements = (tt, proper.acknowledgements);
         starts = (tt, proper.starts);
@@ -140,8 +164,8 @@ module _ (asked : ℕ → Option Range) (z : ℕ) where
         above = λ c j later. proper.above c j (omega arith);
         alone = λ y h. own_is ∙ ap (λ (v : Xid). Some v) (sym (by_name y (same_xid y x) refl h));
         replays = subst (λ (cs : List Change). Replays (cs ++ changes_in (history_of_past past)))
-          (sym (own_changes-changed asked z past n s x row found new start))
-          (subst (λ (cs : List Change). Replays ((record { row = row.0; found = found; new = new } ∷ cs) ++ changes_in (history_of_past past))) stand
+            (sym (own_changes-changed asked z past n s x row found new start))
+            (subst (λ (cs : List Change). Replays ((record { row = row.0; found = found; new = new } ∷ cs) ++ changes_in (history_of_past past))) stand
             (sym is ∙ (value-seen asked z past old s row.0 sound ∙ ap (λ (cs : List Change). value_by (own_changes z past ++ cs) row.0) all), proper.replays));
         commits = (new_x, proper.commits);
         acknowledgements = (tt, proper.acknowledgements);
@@ -151,6 +175,7 @@ module _ (asked : ℕ → Option Range) (z : ℕ) where
     where
       all : changes_up_to s (history_of_past past) ≡ changes_in (history_of_past past)
       all = changes_up_to-all s (history_of_past past) (rw at sound.commits)
+
       by_name : (y : Xid) (b : Bool) → same_xid y x ≡ b → cond b true (is_open y past) ≡ true → y ≡ x
       by_name y true e h = same_xid-true y x e
       by_name y false e h = only y h
@@ -170,11 +195,11 @@ module _ (asked : ℕ → Option Range) (z : ℕ) where
         unused = λ y later. or_false (same_xid y x) (stood (is_commit y) past) (other y later) (proper.unused y (rw wraps at later));
         own_new = rw none tt;
         above = λ d j later. or_false (d == c.0 && j == i.0) (stood (is_commit_by d j) past)
-          (and_false_left (d == c.0) (j == i.0) (ne_eqb d c.0 (λ e. omega arith))) (proper.above d j (let le2 = sound.clock in omega arith));
+            (and_false_left (d == c.0) (j == i.0) (ne_eqb d c.0 (λ e. omega arith))) (proper.above d j (let le2 = sound.clock in omega arith));
         alone = λ y h. absurd (closed y h);
         replays = subst (λ (cs : List Change). Replays (cs ++ changes_in (history_of_past (Acked n x c ∷ Committed x c i ∷ Marked n x c ∷ past))))
-          (sym (ap (λ (o : Option Xid). option_map_or (λ y. changes_of (standing y past)) o []) (own-committed asked z past n x c i (sound.own_is ∙ own_is))))
-          (subst (λ (h : List Commit). Replays (changes_in h)) (sym (history-committed asked z past n x c i old.known sound.commits above))
+            (sym (ap (λ (o : Option Xid). option_map_or (λ y. changes_of (standing y past)) o []) (own-committed asked z past n x c i (sound.own_is ∙ own_is))))
+            (subst (λ (h : List Commit). Replays (changes_in h)) (sym (history-committed asked z past n x c i old.known sound.commits above))
             (subst (λ (cs : List Change). Replays (cs ++ changes_in (history_of_past past))) (own_changes-own asked z past x (sound.own_is ∙ own_is)) proper.replays));
         commits = (tt, ((zero_is ∙ sym own_new.0, marked, own_new.1, proper.above c.0 i.0 above), (own_new.1, proper.commits)));
         acknowledgements = ((marked_by, committed), (tt, (tt, proper.acknowledgements)));
@@ -184,18 +209,22 @@ module _ (asked : ℕ → Option Range) (z : ℕ) where
     where
       own_new : (x.seg.0 ≡ 0) × (stood (is_commit x) past ≡ false)
       own_new = rw own_is at proper.own_new
+
       above : old.known < c.0
       above = let le = sound.clock in omega arith
+
       used : (x.slot < 8) × (x.wrap ≤ wrap_at old.slots x.slot)
       used = rw own_is at sound.own_used
+
       other : (y : Xid) → wrap_at now.slots y.slot < y.wrap → same_xid y x ≡ false
       other y later = by_name (same_xid y x) refl
         where
           by_name : (b : Bool) → same_xid y x ≡ b → b ≡ false
           by_name false e = refl
           by_name true e = absurd (let same = same_xid-true y x e in
-            let later2 : wrap_at now.slots x.slot < x.wrap = subst (λ (v : Xid). wrap_at now.slots v.slot < v.wrap) same later in
-            let w = wraps x.slot in let u = used.1 in omega arith)
+              let later2 : wrap_at now.slots x.slot < x.wrap = subst (λ (v : Xid). wrap_at now.slots v.slot < v.wrap) same later in
+              let w = wraps x.slot in let u = used.1 in omega arith)
+
       closed : (y : Xid) → cond (same_xid y x) false (is_open y past) ≡ true → ⊥
       closed y h = by_name (same_xid y x) refl h
         where
@@ -205,9 +234,12 @@ module _ (asked : ℕ → Option Range) (z : ℕ) where
               let same : ◌≡◌ {A = Option Xid} (Some x) (Some y) = sym own_is ∙ proper.alone y h2 in
               let is : x ≡ y = (cc) in
               let yes : same_xid y x ≡ true = subst (λ (v : Xid). same_xid v x ≡ true) is (same_xid-refl x) in (cc)
+
       marked : stood (is_mark x c.0) (Marked n x c ∷ past) ≡ true
       marked = rw (same_xid-refl x, eq-eqb c.0 c.0 refl) refl
+
       marked_by : stood (is_mark_by n x c.0) (Committed x c i ∷ Marked n x c ∷ past) ≡ true
       marked_by = rw (same_xid-refl x, eq-eqb c.0 c.0 refl, eq-eqb n n refl) refl
+
       committed : stood (is_commit_at x c.0) (Committed x c i ∷ Marked n x c ∷ past) ≡ true
       committed = rw (same_xid-refl x, eq-eqb c.0 c.0 refl) refl

@@ -196,7 +196,7 @@ module _ (asked : ℕ → Option Range) (z : ℕ) where
       → history_of_past (Acked n x c ∷ Committed x c i ∷ Marked n x c ∷ past) ≡ record { c = c.0; inst = i.0; xid = x; changes = changes_of (standing x past) } ∷ history_of_past past
   history-committed past n x c i known below above =
       rw (same_xid-refl x, eq-eqb c.0 c.0 refl)
-        (entered-latest (record { c = c.0; inst = i.0; xid = x; changes = changes_of (standing x past) }) known (history_of_past past) below above)
+      (entered-latest (record { c = c.0; inst = i.0; xid = x; changes = changes_of (standing x past) }) known (history_of_past past) below above)
 
   -- and the session has no own transaction any more
   pub own-committed : (past : Past) (n : ℕ) (x : Xid) (c : Scn) (i : InstNo) → own z past ≡ Some x → own z (Acked n x c ∷ Committed x c i ∷ Marked n x c ∷ past) ≡ None

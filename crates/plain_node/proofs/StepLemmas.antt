@@ -1,5 +1,6 @@
 -- Each statement that the node answers keeps its state in agreement with its journal.
-use Rattle.std.proofs.Common.{◌≡◌, ◌∙◌, ◌≢◌, ℕ, ◌+◌, ◌<◌, ◌≤◌, List, [], ◌∷◌, ◌++◌, Option, Some, None, unwrap_or, map, reverse, length, slice_set, slice_index_or, MatchOption, IfSome, refl, ap, sym, subst, arith, inl, inr, ◌⊎◌, true, false, ◌==◌}
+use Rattle.std.proofs.Common.{◌≡◌, ◌∙◌, ◌≢◌, ℕ, ◌+◌, ◌<◌, ◌≤◌, List, [], ◌∷◌, ◌++◌, Option, Some, None, unwrap_or, map, reverse, length, slice_set, slice_index_or, MatchOption, IfSome, refl, ap, sym, subst, arith, inl, inr, ◌⊎◌, true, false, ◌==◌, is_some}
+use Rattle.std.specs.Option.{option_map_or}
 use Rattle.std.proofs.lemmas.List.{reverse-append, map-append, get_or-set_same, get_or-set_other}
 use Rattle.std.proofs.lemmas.Bool.Decides.{eqb_tells}
 use Rattle.rac_nums.specs.declared.names.Xid.{Xid}
@@ -7,7 +8,7 @@ use Rattle.rac_nums.specs.declared.names.RowNo.{RowNo}
 use Rattle.rac_nums.specs.declared.names.Scn.{Scn}
 use Rattle.rac_nums.specs.declared.value.Value.{Value}
 use Rattle.row_model.specs.declared.entry.Entry.{Entry}
-use Rattle.row_model.specs.declared.entry.Entry.TheVariants.{Started, Rows, Changed, Marked, Committed, Acked, Plain}
+use Rattle.row_model.specs.declared.entry.Entry.TheVariants.{Opened, Started, Rows, Changed, Marked, Committed, Acked, Plain}
 use Rattle.row_model.specs.Past.{start_of, Start}
 use Rattle.row_model.specs.Standing.{changes_of, standing}
 use Rattle.row_model.specs.Sees.{own, own_changes}
@@ -17,9 +18,14 @@ use Rattle.plain_node.specs.declared.slots.SlotUse.{SlotUse}
 use Rattle.plain_node.specs.declared.versions.Pending.{Pending}
 use Rattle.plain_node.specs.declared.versions.Version.{Version}
 use Rattle.plain_node.specs.Slots.{wrap_at, never, next_xid, IsLeastUsed}
-use Rattle.plain_node.specs.Steps.{told, started, got, value_in, begun, IsOwn, changed, Puts, version_at, ended_by, commit_of, committed}
-use Rattle.plain_node.specs.Sound.{Parts, Sound, parts_of, as_pending}
-use Rattle.plain_node.specs.Runs.{IsSound}
+use Rattle.plain_node.specs.Steps.{told, opened, started, got, value_in, begun, IsOwn, changed, Puts, version_at, ended_by, commit_of, committed}
+use Rattle.plain_node.specs.Sound.{Parts, Sound, Proper, parts_of, as_pending}
+use Rattle.row_model.specs.Stood.{stood, is_commit}
+use Rattle.row_model.specs.Past.{Past}
+use Rattle.row_model.specs.Standing.{is_open}
+use Rattle.rac_nums.specs.declared.names.InstNo.{InstNo}
+use Rattle.plain_node.proofs.ProperLemmas.{Proper-opened, Proper-started, Proper-rows, Proper-plain, Proper-changed, Proper-committed}
+use Rattle.plain_node.specs.Runs.{IsSound, IsProper}
 use Rattle.plain_node.proofs.SoundLemmas.{Sound-opened, Sound-plain, Sound-started, start_of-told, Sound-rows, changed as Sound-changed, Sound-committed, wrap_at-ended, own_changes-own}
 
 reverse_push : {A : Type 0} (xs : List A) (x : A) → reverse (xs ++ x ∷ []) ≡ x ∷ reverse xs
@@ -141,3 +147,95 @@ module _ (asked : ℕ → Option Range) where
       by_own : (o : Option Xid) → old.own ≡ o → IsSound asked (commit_of (started old n 0) n o)
       by_own None is = IsSound-told (started old n 0) (Plain n) (Sound-plain asked 0 (reverse (started old n 0).journal) (parts_of old) n (IsSound-started old n sound))
       by_own (Some x) is = IsSound-ended (started old n 0) n x eight (rw is at sound.own_used).0 is (IsSound-started old n sound)
+
+  IsProper-told : (node : Node) (e : Entry) → Proper 0 (e ∷ reverse node.journal) (parts_of node) → IsProper (told node e)
+  IsProper-told node e proper = rw (reverse_push node.journal e) proper
+
+  pub IsProper-opened : (node : Node) (i : InstNo) → i.0 ≡ 0 → IsProper node → IsProper (opened node 0 i)
+  IsProper-opened node i zero_is proper =
+      rw (reverse_push node.journal (Opened 0 i))
+      (Proper-opened asked 0 (reverse node.journal) (parts_of node) (parts_of (opened node 0 i)) i zero_is refl refl refl refl proper)
+
+  IsProper-started : (node : Node) (n : ℕ) → is_some node.home ≡ true → IsSound asked node → IsProper node → IsProper (started node n 0)
+  IsProper-started node n home sound proper =
+      IsProper-told node (Started n 0 node.known) (Proper-started asked 0 (reverse node.journal) (parts_of node) n node.known refl home sound proper)
+
+  pub IsProper-got : (node : Node) (n : ℕ) (row : RowNo) → is_some node.home ≡ true → IsSound asked node → IsProper node → IsProper (got node n 0 row)
+  IsProper-got node n row home sound proper =
+      IsProper-told (started node n 0) _ (Proper-rows asked 0 (reverse (started node n 0).journal) (parts_of node) n _ (IsProper-started node n home sound proper))
+
+  -- a change by the transaction x, which is the own one by then
+  proper-change : (old mid : Node) (n : ℕ) (x : Xid) (row : RowNo) (value : Value)
+      → IsSound asked (started old n 0) → IsProper (started old n 0)
+      → mid.journal ≡ (started old n 0).journal → mid.known ≡ old.known → mid.home ≡ old.home → mid.own ≡ Some x
+      → ((k : ℕ) → wrap_at old.slots k ≤ wrap_at mid.slots k)
+      → x.seg.0 ≡ 0 → stood (is_commit x) (reverse (started old n 0).journal) ≡ false
+      → ((y : Xid) → is_open y (reverse (started old n 0).journal) ≡ true → y ≡ x)
+      → own_changes 0 (reverse (started old n 0).journal) ≡ changes_of (standing x (reverse (started old n 0).journal))
+      → IsProper (changed mid n x row (value_in old old.known.0 row.0) value)
+  proper-change old mid n x row value sound proper journal known home own_is wraps seg new_x only stand =
+      rw (journal, reverse_push (started old n 0).journal (Changed n x row (value_in old old.known.0 row.0) value))
+      (Proper-changed asked 0 (reverse (started old n 0).journal) (parts_of (started old n 0)) (parts_of (changed mid n x row (value_in old old.known.0 row.0) value))
+      n old.known.0 x row (value_in old old.known.0 row.0) value (start-told old n) refl refl sound proper
+      home (ap (λ (s : Scn). s.0) known) own_is wraps seg new_x only stand)
+
+  some_is : (x y : Xid) → ◌≡◌ {A = Option Xid} (Some x) (Some y) → y ≡ x
+  some_is x y e = (cc)
+
+  proper-open : (old mid : Node) (n : ℕ) (x : Xid) (row : RowNo) (value : Value) (y : Xid) → old.own ≡ Some y → x ≡ y → mid ≡ started old n 0
+      → IsSound asked (started old n 0) → IsProper (started old n 0) → IsProper (changed mid n x row (value_in old old.known.0 row.0) value)
+  proper-open old mid n x row value y is same mid_is sound proper =
+      rw (same, mid_is) (proper-change old (started old n 0) n y row value sound proper refl refl refl is (λ k. omega arith)
+      new_y.0 new_y.1
+      (λ v h. some_is y v (sym is ∙ proper.alone v h))
+      (own_changes-own asked 0 (reverse (started old n 0).journal) y (sound.own_is ∙ is)))
+    where
+      new_y : (y.seg.0 ≡ 0) × (stood (is_commit y) (reverse (started old n 0).journal) ≡ false)
+      new_y = rw is at proper.own_new
+
+  own-none : (past : Past) → own 0 past ≡ None → own_changes 0 past ≡ []
+  own-none past is = ap (λ (o : Option Xid). option_map_or (λ y. changes_of (standing y past)) o []) is
+
+  proper-first : (old mid : Node) (n : ℕ) (x : Xid) (row : RowNo) (value : Value) (k : ℕ) → old.own ≡ None → k < length old.slots
+      → x ≡ next_xid old.slots k → mid ≡ begun (started old n 0) k
+      → IsSound asked (started old n 0) → IsProper (started old n 0) → IsProper (changed mid n x row (value_in old old.known.0 row.0) value)
+  proper-first old mid n x row value k is within x_is mid_is sound proper =
+      rw (x_is, mid_is) (proper-change old (begun (started old n 0) k) n (next_xid old.slots k) row value sound proper refl refl refl refl
+      (λ j. wrap_at-begun (started old n 0) k j within) refl
+      (proper.unused (next_xid old.slots k) (omega arith))
+      (λ v h. absurd (none_some v (sym is ∙ proper.alone v h)))
+      (own-none (reverse (started old n 0).journal) (sound.own_is ∙ is) ∙ sym (ap changes_of (sound.fresh (next_xid old.slots k) (omega arith)))))
+    where
+      none_some : (v : Xid) → ◌≡◌ {A = Option Xid} None (Some v) → ⊥
+      none_some v e = (cc)
+
+  proper-own : (old mid : Node) (n : ℕ) (x : Xid) (row : RowNo) (value : Value) (o : Option Xid) → old.own ≡ o
+      → MatchOption o ((k : ℕ) × IsLeastUsed old.slots k × (x ≡ next_xid old.slots k) × (mid ≡ begun (started old n 0) k)) (λ y. (x ≡ y) × (mid ≡ started old n 0))
+      → IsSound asked (started old n 0) → IsProper (started old n 0) → IsProper (changed mid n x row (value_in old old.known.0 row.0) value)
+  proper-own old mid n x row value None is h sound proper = proper-first old mid n x row value h.0 is h.1.within h.2 h.3 sound proper
+  proper-own old mid n x row value (Some y) is h sound proper = proper-open old mid n x row value y is h.0 h.1 sound proper
+
+  pub IsProper-put : (old : Node) (n : ℕ) (row : RowNo) (value : Value) (now : Node) → is_some old.home ≡ true → IsSound asked old → IsProper old → Puts old n 0 row value now → IsProper now
+  IsProper-put old n row value now home sound proper puts =
+      rw puts.3 (proper-own old puts.1 n puts.0 row value old.own refl puts.2 (IsSound-started old n sound) (IsProper-started old n home sound proper))
+
+  IsProper-ended : (old : Node) (n : ℕ) (x : Xid) → length old.slots ≡ 8 → x.slot < 8 → old.own ≡ Some x → IsSound asked old → IsProper old → IsProper (ended_by old n x)
+  IsProper-ended old n x eight within is sound proper =
+      rw (
+        reverse_push ((old.journal ++ Marked n x c ∷ []) ++ Committed x c (record { 0 = 0 }) ∷ []) (Acked n x c),
+        reverse_push (old.journal ++ Marked n x c ∷ []) (Committed x c (record { 0 = 0 })),
+        reverse_push old.journal (Marked n x c),
+      )
+      (Proper-committed asked 0 (reverse old.journal) (parts_of old) (parts_of (ended_by old n x)) n x c (record { 0 = 0 })
+      is refl refl refl refl refl
+      (λ k. wrap_at-ended asked 0 old.slots x.slot k c (omega arith)) sound proper)
+    where
+      c : Scn
+      c = record { 0 = old.scn.0 + 1 }
+
+  pub IsProper-committed : (old : Node) (n : ℕ) → length old.slots ≡ 8 → is_some old.home ≡ true → IsSound asked old → IsProper old → IsProper (committed old n 0)
+  IsProper-committed old n eight home sound proper = by_own old.own refl
+    where
+      by_own : (o : Option Xid) → old.own ≡ o → IsProper (commit_of (started old n 0) n o)
+      by_own None is = IsProper-told (started old n 0) (Plain n) (Proper-plain asked 0 (reverse (started old n 0).journal) (parts_of old) n (IsProper-started old n home sound proper))
+      by_own (Some x) is = IsProper-ended (started old n 0) n x eight (rw is at sound.own_used).0 is (IsSound-started old n sound) (IsProper-started old n home sound proper)

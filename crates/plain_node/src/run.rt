@@ -1,8 +1,8 @@
 ghost use Rattle.std.specs.Prelude.{◌≡◌, ℕ, List, ◌∷◌, ◌++◌, Option, OnOk, IfOk, false};
 ghost use Rattle.script_text.specs.declared.item.Item.{Item};
-ghost use Rattle.row_model.specs.Good.{Range, GoodRows, GoodFound};
+ghost use Rattle.row_model.specs.Good.{Range, GoodRows, GoodFound, GoodCommits, GoodAcknowledgements, GoodStarts, GoodRowLocks, GoodReplay};
 ghost use Rattle.plain_node.specs.Asked.{range_asked, items_of, asked_by, Asks};
-ghost use Rattle.plain_node.specs.Runs.{CanRun, IsSound, RunsPlainly};
+ghost use Rattle.plain_node.specs.Runs.{CanRun, IsSound, IsProper, RunsPlainly};
 
 use crate::node::Node;
 use rac_nums::NoMemory;
@@ -16,6 +16,7 @@ fn answer(node: &mut Node, alloc: Global, line: u32, item: &Item) -> Result<(), 
     ensures runs { OnOk result ((more : List (ℕ × Item)) → CanRun node.old ((line, item.now) ∷ more) → CanRun node.new more) }
     ensures sound { OnOk result ((asked : ℕ → Option Range) → asked line ≡ range_asked item.now →
         IsSound asked node.old → IsSound asked node.new) }
+    ensures proper { OnOk result ((asked : ℕ → Option Range) → IsSound asked node.old → IsProper node.old → IsProper node.new) }
 {
     match item {
         Item::Session { session, inst } => node.open(*session, *inst),
@@ -45,7 +46,7 @@ fn run_wave(node: &mut Node, alloc: Global, wave: &Wave) -> Result<(), NoMemory>
     requires { (more : List (ℕ × Item)) × CanRun node.old (wave.now ++ more) }
     ensures runs { OnOk result ((more : List (ℕ × Item)) → CanRun node.old (wave.now ++ more) → CanRun node.new more) }
     ensures sound { OnOk result ((asked : ℕ → Option Range) → Asks asked wave.now →
-        IsSound asked node.old → IsSound asked node.new) }
+        IsSound asked node.old → IsProper node.old → IsSound asked node.new × IsProper node.new) }
 {
     for line in wave.as_slice() {
         answer(node, alloc, line.0, &line.1)?;
@@ -57,7 +58,7 @@ fn run_wave(node: &mut Node, alloc: Global, wave: &Wave) -> Result<(), NoMemory>
 fn run_waves(node: &mut Node, alloc: Global, waves: &Waves) -> Result<(), NoMemory>
     requires { CanRun node.old (items_of waves.now) }
     ensures sound { OnOk result ((asked : ℕ → Option Range) → Asks asked (items_of waves.now) →
-        IsSound asked node.old → IsSound asked node.new) }
+        IsSound asked node.old → IsProper node.old → IsSound asked node.new × IsProper node.new) }
 {
     for wave in waves.as_slice() {
         run_wave(node, alloc, wave)?;
@@ -65,13 +66,29 @@ fn run_waves(node: &mut Node, alloc: Global, waves: &Waves) -> Result<(), NoMemo
     Ok(())
 }
 
-/// Runs a script, and gives the journal of the run.
-pub fn run_script(alloc: Global, script: &Script) -> Result<Journal, NoMemory>
+/// Runs a script on a new node.
+fn run_node(alloc: Global, script: &Script) -> Result<Node, NoMemory>
     requires { RunsPlainly 0 false (items_of script.now.waves) }
-    ensures rows { IfOk result (λ journal. GoodRows (asked_by (items_of script.now.waves)) journal) }
-    ensures found { IfOk result GoodFound }
+    ensures sound { IfOk result (IsSound (asked_by (items_of script.now.waves))) }
+    ensures proper { IfOk result IsProper }
 {
     let mut node = Node::new(alloc);
     run_waves(&mut node, alloc, script.waves())?;
+    Ok(node)
+}
+
+/// Runs a script, and gives the journal of the run.
+pub fn run_script(alloc: Global, script: &Script) -> Result<Journal, NoMemory>
+    requires { RunsPlainly 0 false (items_of script.now.waves) }
+
+    ensures rows { IfOk result (GoodRows (asked_by (items_of script.now.waves))) }
+    ensures found { IfOk result GoodFound }
+    ensures commits { IfOk result GoodCommits }
+    ensures acknowledgements { IfOk result GoodAcknowledgements }
+    ensures starts { IfOk result GoodStarts }
+    ensures row_locks { IfOk result GoodRowLocks }
+    ensures replay { IfOk result GoodReplay }
+{
+    let node = run_node(alloc, script)?;
     Ok(node.journal)
 }

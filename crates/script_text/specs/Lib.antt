@@ -1,1 +1,10 @@
 pub mod ScriptParts
+pub mod Words
+pub mod Spelling
+pub mod Limits
+pub mod Forms
+pub mod Rules
+pub mod Shapes
+pub mod Reading
+pub mod Answers
+pub mod WellFormed

@@ -1,3 +1,6 @@
+ghost use Rattle.std.specs.Prelude.{◌≡◌};
+
+use rac_nums::NoMemory;
 use thiserror::Error;
 
 /// The rules of a script, in the order in which a line is held against them.
@@ -23,4 +26,42 @@ pub enum ScriptError {
     Line { n: u32, rule: Rule },
     #[error("no memory")]
     NoMemory,
+}
+
+/// Why a line was not read.
+#[derive(Debug, Drop)]
+pub(crate) enum LineError {
+    /// The first rule that it breaks.
+    Broken(Rule),
+    NoMemory,
+}
+
+impl From<Rule> for LineError {
+    ghost use Rattle.script_text.specs.declared.rule.LineError.TheVariants.{Broken};
+
+    ghost from_gives = { λ rule error. error ≡ Broken rule };
+
+    fn from(rule: Rule) -> LineError {
+        LineError::Broken(rule)
+    }
+}
+
+impl From<NoMemory> for LineError {
+    ghost use Rattle.script_text.specs.declared.rule.LineError.TheVariants as errors;
+
+    ghost from_gives = { λ _ error. error ≡ errors.NoMemory };
+
+    fn from(_refused: NoMemory) -> LineError {
+        LineError::NoMemory
+    }
+}
+
+impl From<NoMemory> for ScriptError {
+    ghost use Rattle.script_text.specs.declared.rule.ScriptError.TheVariants as errors;
+
+    ghost from_gives = { λ _ error. error ≡ errors.NoMemory };
+
+    fn from(_refused: NoMemory) -> ScriptError {
+        ScriptError::NoMemory
+    }
 }

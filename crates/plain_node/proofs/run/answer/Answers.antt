@@ -3,7 +3,7 @@ use Rattle.std.proofs.Common.{◌≡◌, ◌∙◌, ap, subst, Option, ℕ}
 use Rattle.std.proofs.lemmas.Result.{on_ok_weaker}
 use Rattle.row_model.specs.Good.{Range}
 use Rattle.plain_node.specs.Asked.{range_asked, range_of}
-use Rattle.plain_node.proofs.StepLemmas.{IsSound-got, IsSound-put, IsSound-committed}
+use Rattle.plain_node.proofs.StepLemmas.{IsSound-got, IsSound-put, IsSound-committed, IsProper-opened, IsProper-got, IsProper-put, IsProper-committed}
 use Rattle.plain_node.proofs.FitsLemmas.{Fits-opened, Fits-got, Fits-put, Fits-committed}
 use Rattle.plain_node.proofs.run.answer.Goals as goal
 
@@ -33,33 +33,64 @@ returns-in-Commit-clause-sound c =
 pub returns-in-Session-clause-runs : goal.returns-in-Session-clause-runs
 returns-in-Session-clause-runs c =
     on_ok_weaker c.open.result
-      (λ e more can. rw e
-        (c.args.line,
-         Fits-opened can.0 c.args.line c.in-Session.session c.in-Session.inst c.args.node.now can.2.0 can.1,
-         (rw c.in-Session.is at can.2).3))
-      c.open.ensures
+    (λ e more can. rw e (
+      c.args.line,
+      Fits-opened can.0 c.args.line c.in-Session.session c.in-Session.inst c.args.node.now can.2.0 can.1,
+      (rw c.in-Session.is at can.2).3,
+    ))
+    c.open.ensures
 
 pub returns-in-Get-clause-runs : goal.returns-in-Get-clause-runs
 returns-in-Get-clause-runs c =
     on_ok_weaker c.get.result
-      (λ e more can. rw e
-        (c.args.line,
-         Fits-got can.0 c.args.line c.in-Stmt.session c.in-Get.row c.args.node.now can.2.0 can.1,
-         (rw c.in-Stmt.is at can.2).3))
-      c.get.ensures
+    (λ e more can. rw e (
+      c.args.line,
+      Fits-got can.0 c.args.line c.in-Stmt.session c.in-Get.row c.args.node.now can.2.0 can.1,
+      (rw c.in-Stmt.is at can.2).3,
+    ))
+    c.get.ensures
 
 pub returns-in-Put-clause-runs : goal.returns-in-Put-clause-runs
 returns-in-Put-clause-runs c =
     on_ok_weaker c.put.result
-      (λ puts more can.
-        let fits = Fits-put can.0 c.args.line c.in-Stmt.session c.in-Put.row c.in-Put.value c.args.node.now c.put.new.self can.2.0 can.1 puts in
-        (c.args.line, fits.0, rw fits.1 (rw c.in-Stmt.is at can.2).3))
-      c.put.ensures
+    (λ puts more can.
+    let fits = Fits-put can.0 c.args.line c.in-Stmt.session c.in-Put.row c.in-Put.value c.args.node.now c.put.new.self can.2.0 can.1 puts in
+    (c.args.line, fits.0, rw fits.1 (rw c.in-Stmt.is at can.2).3))
+    c.put.ensures
 
 pub returns-in-Commit-clause-runs : goal.returns-in-Commit-clause-runs
 returns-in-Commit-clause-runs c =
     on_ok_weaker c.commit.result
-      (λ e more can.
-        let fits = Fits-committed can.0 c.args.line c.in-Stmt.session c.args.node.now can.2.0 can.1 in
-        rw e (c.args.line, fits.0, rw fits.1 (rw c.in-Stmt.is at can.2).3))
-      c.commit.ensures
+    (λ e more can.
+    let fits = Fits-committed can.0 c.args.line c.in-Stmt.session c.args.node.now can.2.0 can.1 in
+    rw e (c.args.line, fits.0, rw fits.1 (rw c.in-Stmt.is at can.2).3))
+    c.commit.ensures
+
+pub returns-in-Session-clause-proper : goal.returns-in-Session-clause-proper
+returns-in-Session-clause-proper c =
+    let plain = (rw c.in-Session.is at c.requires.1.2.2) in
+    on_ok_weaker c.open.result
+    (λ e asked sound proper. let e2 = rw plain.0 at e in rw e2 (IsProper-opened asked c.args.node.now c.in-Session.inst plain.1 proper))
+    c.open.ensures
+
+pub returns-in-Get-clause-proper : goal.returns-in-Get-clause-proper
+returns-in-Get-clause-proper c =
+    let plain = (rw c.in-Stmt.is at c.requires.1.2.2) in
+    on_ok_weaker c.get.result
+    (λ e asked sound proper. let e2 = rw plain.0 at e in rw e2 (IsProper-got asked c.args.node.now c.args.line c.in-Get.row plain.1 sound proper))
+    c.get.ensures
+
+pub returns-in-Put-clause-proper : goal.returns-in-Put-clause-proper
+returns-in-Put-clause-proper c =
+    let plain = (rw c.in-Stmt.is at c.requires.1.2.2) in
+    on_ok_weaker c.put.result
+    (λ puts asked sound proper.
+    IsProper-put asked c.args.node.now c.args.line c.in-Put.row c.in-Put.value c.put.new.self plain.1 sound proper (rw plain.0 at puts))
+    c.put.ensures
+
+pub returns-in-Commit-clause-proper : goal.returns-in-Commit-clause-proper
+returns-in-Commit-clause-proper c =
+    let plain = (rw c.in-Stmt.is at c.requires.1.2.2) in
+    on_ok_weaker c.commit.result
+    (λ e asked sound proper. let e2 = rw plain.0 at e in rw e2 (IsProper-committed asked c.args.node.now c.args.line c.requires.1.1.slots plain.1 sound proper))
+    c.commit.ensures

@@ -20,7 +20,11 @@ loop-line-preserved c =
     (c.line-item.is ∙ ap (λ (lines : List (ℕ × Item)). get_or lines c.loop-line.line-index c.line-item.result) c.as_slice-line-items.ensures) in
     record {
       runs = λ more can. c.in_ok-answer.ensures.runs (drop (c.loop-line.line-index + 1) c.args.wave.now ++ more) (rw cut at (c.loop-line.invariant.runs more can));
-      sound = λ asked asks s. c.in_ok-answer.ensures.sound asked (rw cut at (Asks-drop asked c.loop-line.line-index c.args.wave.now asks)).0 (c.loop-line.invariant.sound asked asks s);
+      sound = λ asked asks s p.
+          let so_far = c.loop-line.invariant.sound asked asks s p in (
+            c.in_ok-answer.ensures.sound asked (rw cut at (Asks-drop asked c.loop-line.line-index c.args.wave.now asks)).0 so_far.0,
+            c.in_ok-answer.ensures.proper asked so_far.0 so_far.1,
+          );
     }
 
 pub returns-clause-runs : goal.returns-clause-runs

@@ -23,7 +23,7 @@ loop-wave-preserved c =
           let so_far = c.loop-wave.invariant.sound asked asks in
           let left = rw cut at so_far.0 in (
             Asks-back asked c.wave-item.result rest left,
-            λ s. c.in_ok-run_wave.ensures.sound asked (Asks-front asked c.wave-item.result rest left) (so_far.1 s),
+            λ s p. let both = so_far.1 s p in c.in_ok-run_wave.ensures.sound asked (Asks-front asked c.wave-item.result rest left) both.0 both.1,
           );
     }
 
