@@ -1,0 +1,7 @@
+mod Finds
+mod Current
+mod Settled
+mod EndSteps
+mod Wholes
+mod Members
+mod Counting

@@ -1,0 +1,15 @@
+//! What a run did, as text: the report of its answers, its journal, and a summary.
+#![tactic(auto)]
+
+mod answer;
+mod counts;
+mod ends;
+mod journal;
+mod losses;
+mod places;
+mod texts;
+mod told;
+mod waves;
+
+pub use counts::summary;
+pub use told::report;
