@@ -6,22 +6,17 @@ use Rattle.std.specs.Option.{option_map_or}
 use Rattle.rac_nums.specs.Texts.{value_text, xid_text}
 use Rattle.row_model.specs.declared.entry.Entry.{Entry}
 use Rattle.row_model.specs.declared.entry.Entry.TheVariants.{Opened, Started, Rows, Changed, Locked, Marked, Committed, Acked, Undone, Rolled, Plain, Refused, Crashed, Ended, Recovered, Up, Moved, Checkpointed, NotDone}
+use Rattle.row_model.specs.Past.{session_in}
 use Rattle.script_text.specs.ScriptParts.{ScriptParts}
 use Rattle.run_report.specs.Texts.{◌⧺◌, rows_text, cause_text}
 
--- The session that an entry names.
-abbrev pub session_of : Entry → Option ℕ
-session_of (Opened session _) = Some session
-session_of (Started _ session _) = Some session
-session_of _ = None
-
 -- The script has the session that an entry names.
 abbrev pub HasSession : ScriptParts → Entry → Type 0
-HasSession script entry = IfSome (session_of entry) (λ session. session < length script.names)
+HasSession script entry = IfSome (session_in entry) (λ session. session < length script.names)
 
 -- The name of the session that an entry names; nothing where it names none.
 abbrev pub name_of : ScriptParts → Entry → List ℕ
-name_of script entry = option_map_or (λ session. unwrap_or (slice_get script.names session) []) (session_of entry) []
+name_of script entry = option_map_or (λ session. unwrap_or (slice_get script.names session) []) (session_in entry) []
 
 -- An instance that is among those whose bits are set prints after a space.
 abbrev pub member_text : ℕ → ℕ → List ℕ
