@@ -1,0 +1,51 @@
+-- What the exits of the top call say.
+use Rattle.std.specs.Prelude.{◌≡◌, ℕ, List, [], ◌∷◌, Bool, true, ◌==◌, ◌||◌, Option, Some, Result, Ok, Err}
+use Rattle.std.specs.Io.KnownBytes.{Appends}
+use Rattle.rac_io.specs.Write.{AppendsPart}
+use Rattle.row_model.specs.declared.entry.Entry.{Entry}
+use Rattle.script_text.specs.ScriptParts.{ScriptParts}
+use Rattle.script_text.specs.Reading.{Refusal, reading}
+use Rattle.run_report.specs.Reports.{report_text}
+use Rattle.rac_top.specs.declared.exit.Exit.{Exit}
+use Rattle.rac_top.specs.declared.exit.Note.{Note}
+use Rattle.rac_top.specs.declared.exit.Note.TheVariants.{Nothing, Usage, Line}
+use Rattle.rac_top.specs.declared.reading.Unread.{Unread}
+use Rattle.rac_top.specs.declared.reading.Unread.TheVariants as unread
+
+-- the exit where no script was read
+abbrev pub exit_unread : Unread → Exit
+exit_unread unread.Fault = record { status = 4; note = Nothing; journal = [] }
+exit_unread (unread.Line n rule) = record { status = 3; note = Line n rule; journal = [] }
+exit_unread unread.NoMemory = record { status = 7; note = Nothing; journal = [] }
+
+-- the statuses at which nothing was run
+abbrev pub is_without_run : ℕ → Bool
+is_without_run status = status == 2 || status == 3 || status == 4 || status == 7
+
+-- the statuses that say all by themselves
+abbrev pub is_plain : ℕ → Bool
+is_plain status = status == 0 || status == 4 || status == 5 || status == 7
+
+-- a note stands beside its own status
+abbrev pub NoteFits : Note → ℕ → Type 0
+NoteFits Nothing status = is_plain status ≡ true
+NoteFits Usage status = status ≡ 2
+NoteFits (Line n rule) status = status ≡ 3
+
+-- a note tells the line and the rule for which a text is refused
+abbrev pub SaysNo : Note → List ℕ → Type 0
+SaysNo (Line n rule) text = reading text ≡ Err (record { line = n; rule = rule })
+SaysNo _ text = Unit {0}
+
+-- the text is a script, and what is held now is what was held and then the report of that script and this
+-- journal, with the journal's own lines where the words asked for them
+abbrev pub Reports : Option Bool → List ℕ → List Entry → Option (List ℕ) → Option (List ℕ) → Type 0
+Reports words text journal old new =
+    (parts : ScriptParts) × (flag : Bool) × (reading text ≡ Ok parts) × (words ≡ Some flag)
+    × Appends old new (report_text parts journal flag)
+
+-- the same, but that only a part of the report was written, less than the whole
+abbrev pub ReportsPart : Option Bool → List ℕ → List Entry → Option (List ℕ) → Option (List ℕ) → Type 0
+ReportsPart words text journal old new =
+    (parts : ScriptParts) × (flag : Bool) × (reading text ≡ Ok parts) × (words ≡ Some flag)
+    × AppendsPart old new (report_text parts journal flag)

@@ -1,0 +1,30 @@
+-- What the top call's answers say.
+use Rattle.std.specs.Prelude.{◌≡◌, ℕ, List, Result, Ok, Err}
+use Rattle.row_model.specs.declared.entry.Entry.{Entry}
+use Rattle.row_model.specs.Good.{GoodRows, GoodFound, GoodCommits, GoodAcknowledgements, GoodStarts, GoodRowLocks, GoodReplay}
+use Rattle.script_text.specs.Asked.{asked}
+use Rattle.script_text.specs.ScriptParts.{ScriptParts}
+use Rattle.script_text.specs.Reading.{Refusal}
+use Rattle.rac_top.specs.declared.reading.Unread.{Unread}
+use Rattle.rac_top.specs.declared.reading.Unread.TheVariants.{Fault, Line, NoMemory}
+
+-- a script was not read: where it was for a line, the text says so
+abbrev pub IsUnread : Unread → Result ScriptParts Refusal → Type 0
+IsUnread (Line n rule) said = said ≡ Err (record { line = n; rule = rule })
+IsUnread Fault said = Unit {0}
+IsUnread NoMemory said = Unit {0}
+
+-- what was read, or why nothing was, is what the text says
+abbrev pub Says : Result ScriptParts Unread → Result ScriptParts Refusal → Type 0
+Says (Ok script) said = said ≡ Ok script
+Says (Err why) said = IsUnread why said
+
+-- the journal of a run of a script is good, as far as its clauses speak of what the run can do
+pub record IsGoodRun (parts : ScriptParts) (journal : List Entry) : Type 0 where
+  pub rows : GoodRows (asked parts) journal
+  pub found : GoodFound journal
+  pub commits : GoodCommits journal
+  pub acknowledgements : GoodAcknowledgements journal
+  pub starts : GoodStarts journal
+  pub row_locks : GoodRowLocks journal
+  pub replay : GoodReplay journal
