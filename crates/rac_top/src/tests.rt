@@ -1,0 +1,177 @@
+use crate::{Exit, Note, rac};
+use rac_io::{MemSink, MemSource};
+use script_text::Rule;
+use std::test::Fail;
+
+/// A call: its words, its script, the reads that fail, the room of its sink and the writes that fail; and how it
+/// ends, with what is written.
+#[derive(Clone, Copy)]
+struct Case<'a> {
+    words: &'a [&'a str],
+    script: &'a str,
+    read_fails: &'a [u32],
+    room: usize,
+    write_fails: &'a [u32],
+    status: u8,
+    note: Note,
+    written: &'a str,
+}
+
+const RUN: Case<'static> = Case {
+    words: &["run"],
+    script: "",
+    read_fails: &[],
+    room: 1000,
+    write_fails: &[],
+    status: 0,
+    note: Note::Nothing,
+    written: "",
+};
+
+const FIRST: &str = "instances 1\nsession a on 0\na: put 3 42\na: commit\na: get 3\n";
+
+fn call(rt: &HostRuntime, case: &Case) -> Result<(Exit, MemSink), Fail> {
+    let alloc = rt.alloc();
+    let mut words = Vec::new(alloc);
+    for word in case.words {
+        words.push(String::from_str(alloc, word)?)?;
+    }
+    let mut source = MemSource::new(
+        case.script.as_bytes().to_vec(alloc)?,
+        case.read_fails.to_vec(alloc)?,
+    );
+    let mut sink = MemSink::new(alloc, case.room, case.write_fails.to_vec(alloc)?)?;
+    let exit = rac(alloc, words.as_slice(), &mut source, &mut sink);
+    Ok((exit, sink))
+}
+
+#[test]
+fn ends_as_it_should(rt: HostRuntime) -> Result<(), Fail> {
+    let cases = [
+        RUN,
+        Case {
+            script: "go\ngo\n",
+            ..RUN
+        },
+        Case {
+            script: FIRST,
+            written: "3: changed\n4: committed\n5: rows 3=42\n",
+            ..RUN
+        },
+        Case {
+            script: "instances 1\nsession a on 0\na: get 31\na: get 0\n",
+            written: "3: rows none\n4: rows none\n",
+            ..RUN
+        },
+        Case {
+            words: &["run", "--journal"],
+            script: "session a on 0\na: commit\na: put 0 -7\na: get 0",
+            written: "2: committed\n3: changed\n4: rows 0=-7\nopened a 0\nstarted 2 a 0\nplain 2\nstarted 3 a 0\nchanged 3 0.0.1 0 absent -7\nstarted 4 a 0\nrows 4 0=-7\n",
+            ..RUN
+        },
+        Case {
+            script: "session a on 0\na: put 0 1\na: commit\na: put 0 2\na: commit\na: put 1 1\na: get 0\na: get 1\n",
+            written: "2: changed\n3: committed\n4: changed\n5: committed\n6: changed\n7: rows 0=2\n8: rows 1=1\n",
+            ..RUN
+        },
+        Case {
+            script: "instances 1\nsession a on 0\na: get 32\n",
+            status: 3,
+            note: Note::Line {
+                n: 3,
+                rule: Rule::Range,
+            },
+            ..RUN
+        },
+        Case {
+            script: "session a on 0\na: pu\n",
+            status: 3,
+            note: Note::Line {
+                n: 2,
+                rule: Rule::Word,
+            },
+            ..RUN
+        },
+        Case {
+            script: "session a on 0\nz: get 0\n",
+            status: 3,
+            note: Note::Line {
+                n: 2,
+                rule: Rule::Session,
+            },
+            ..RUN
+        },
+        Case {
+            script: "instances 1\nsession a on 0\na: put 0 9223372036854775808\n",
+            status: 3,
+            note: Note::Line {
+                n: 3,
+                rule: Rule::Number,
+            },
+            ..RUN
+        },
+        Case {
+            words: &[],
+            status: 2,
+            note: Note::Usage,
+            ..RUN
+        },
+        Case {
+            words: &["run", "--jornal"],
+            script: FIRST,
+            status: 2,
+            note: Note::Usage,
+            ..RUN
+        },
+        Case {
+            words: &["run", "--journal", "--journal"],
+            status: 2,
+            note: Note::Usage,
+            ..RUN
+        },
+        Case {
+            words: &["walk"],
+            status: 2,
+            note: Note::Usage,
+            ..RUN
+        },
+        Case {
+            script: FIRST,
+            read_fails: &[1],
+            status: 4,
+            ..RUN
+        },
+        Case {
+            script: FIRST,
+            read_fails: &[2],
+            status: 4,
+            ..RUN
+        },
+        Case {
+            script: FIRST,
+            read_fails: &[3],
+            written: "3: changed\n4: committed\n5: rows 3=42\n",
+            ..RUN
+        },
+        Case {
+            script: FIRST,
+            room: 4,
+            status: 5,
+            written: "3: c",
+            ..RUN
+        },
+        Case {
+            script: FIRST,
+            write_fails: &[1],
+            status: 5,
+            ..RUN
+        },
+    ];
+    for (number, case) in cases.iter().enumerate() {
+        let (exit, sink) = call(&rt, case)?;
+        assert_eq!(rt; exit.status, case.status, "case {number}");
+        assert_eq!(rt; exit.note, case.note, "case {number}");
+        assert_eq!(rt; sink.bytes(), case.written.as_bytes(), "case {number}");
+    }
+    Ok(())
+}
