@@ -1,10 +1,7 @@
 -- The forms of a line: what each asks of its words, and what it adds to what was said.
-use Rattle.std.specs.Prelude.{ℕ, List, [], ◌∷◌, ◌++◌, ◌+◌, ◌*◌, Bool, true, not, ◌&&◌, ◌==◌, slice_index, Option, Some, None, unwrap_or, is_none, nat_lt, nat_le, length, if◌then◌else◌, codes}
+use Rattle.std.specs.Prelude.{ℕ, List, [], ◌∷◌, ◌++◌, ◌*◌, Bool, true, not, ◌&&◌, ◌==◌, slice_index, Option, Some, None, unwrap_or, is_none, nat_lt, nat_le, length, if◌then◌else◌, codes}
 use Rattle.std.specs.List.{list_any, position_or_len}
 use Rattle.std.specs.Str.{bytes_eq}
-use Rattle.rac_nums.specs.declared.names.InstNo.{InstNo}
-use Rattle.rac_nums.specs.declared.names.RowNo.{RowNo}
-use Rattle.rac_nums.specs.declared.value.Value.{Value}
 use Rattle.rac_nums.specs.declared.value.Value.TheVariants.{Num}
 use Rattle.script_text.specs.declared.item.Item.{Item}
 use Rattle.script_text.specs.declared.item.Item.TheVariants as items
