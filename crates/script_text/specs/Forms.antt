@@ -11,7 +11,9 @@ use Rattle.script_text.specs.declared.said.Said.{Said}
 use Rattle.script_text.specs.Spelling.{label_name, is_label, number, signed_number}
 use Rattle.script_text.specs.Limits.{instance_limit, session_limit, default_instances, default_blocks}
 
--- what a line asks of its words and of what was said before, and what was said once it is read
+-- what a line asks of its words and of what was said before, and what was said once it is read: which words are
+-- to be names and numbers, whether the numbers are in their ranges, the line in its place, its sessions as they
+-- are to be, and its instance in no other crash or start line of the wave
 pub record Row : Type 0 where
   pub names : List (List ℕ)
   pub numbers : List (List ℕ)
@@ -19,6 +21,7 @@ pub record Row : Type 0 where
   pub in_range : Bool
   pub in_order : Bool
   pub in_session : Bool
+  pub once : Bool
   pub then_said : Said
 
 -- a line that asks for nothing
@@ -30,6 +33,7 @@ plain said = record {
   in_range = true;
   in_order = true;
   in_session = true;
+  once = true;
   then_said = said;
 }
 
