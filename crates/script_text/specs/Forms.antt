@@ -1,10 +1,7 @@
 -- The forms of a line: what each asks of its words, and what it adds to what was said.
-use Rattle.std.specs.Prelude.{ℕ, List, [], ◌∷◌, ◌++◌, ◌+◌, ◌*◌, Bool, true, not, ◌&&◌, ◌==◌, slice_index, Option, Some, None, unwrap_or, is_none, nat_lt, nat_le, length, if◌then◌else◌, codes}
+use Rattle.std.specs.Prelude.{ℕ, List, [], ◌∷◌, ◌++◌, ◌*◌, Bool, true, not, ◌&&◌, ◌==◌, slice_index, Option, Some, None, unwrap_or, is_none, nat_lt, nat_le, length, if◌then◌else◌, codes}
 use Rattle.std.specs.List.{list_any, position_or_len}
 use Rattle.std.specs.Str.{bytes_eq}
-use Rattle.rac_nums.specs.declared.names.InstNo.{InstNo}
-use Rattle.rac_nums.specs.declared.names.RowNo.{RowNo}
-use Rattle.rac_nums.specs.declared.value.Value.{Value}
 use Rattle.rac_nums.specs.declared.value.Value.TheVariants.{Num}
 use Rattle.script_text.specs.declared.item.Item.{Item}
 use Rattle.script_text.specs.declared.item.Item.TheVariants as items
@@ -14,7 +11,9 @@ use Rattle.script_text.specs.declared.said.Said.{Said}
 use Rattle.script_text.specs.Spelling.{label_name, is_label, number, signed_number}
 use Rattle.script_text.specs.Limits.{instance_limit, session_limit, default_instances, default_blocks}
 
--- what a line asks of its words and of what was said before, and what was said once it is read
+-- what a line asks of its words and of what was said before, and what was said once it is read: which words are
+-- to be names and numbers, whether the numbers are in their ranges, the line in its place, its sessions as they
+-- are to be, and its instance in no other crash or start line of the wave
 pub record Row : Type 0 where
   pub names : List (List ℕ)
   pub numbers : List (List ℕ)
@@ -22,6 +21,7 @@ pub record Row : Type 0 where
   pub in_range : Bool
   pub in_order : Bool
   pub in_session : Bool
+  pub once : Bool
   pub then_said : Said
 
 -- a line that asks for nothing
@@ -33,6 +33,7 @@ plain said = record {
   in_range = true;
   in_order = true;
   in_session = true;
+  once = true;
   then_said = said;
 }
 

@@ -25,7 +25,8 @@ judged row =
     (kept row.in_range rules.Range
     (kept row.in_order rules.Order
     (kept row.in_session rules.Session
-    (Ok row.then_said)))))
+    (kept row.once rules.Twice
+    (Ok row.then_said))))))
 
 -- the same of a line that may have no form
 abbrev pub judged_form : Option Row → Result Said Rule
