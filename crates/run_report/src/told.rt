@@ -38,7 +38,11 @@ pub fn report(
 }
 
 /// Tells the lines of a script's waves that have an answer.
-fn tell_waves(alloc: Global, waves: &[Wave], journal: &[Entry]) -> Result<String, NoMemory>
+pub(crate) fn tell_waves(
+    alloc: Global,
+    waves: &[Wave],
+    journal: &[Entry],
+) -> Result<String, NoMemory>
     ensures { IfOk result (λ text. string_bytes text ≡ answers_text waves.now journal.now) }
 {
     let places = first_answers(alloc, journal)?;
