@@ -23,18 +23,28 @@ fn replays(changes: &[RowChange]) -> bool
     true
 }
 
-/// Whether a journal over so many rows is good as far as no script is needed. It scans the entries by the
-/// definitions, and takes time by the fourth power of their number.
+/// Whether a journal over so many rows is good as far as no script is needed: each of its statements has
+/// started and sees what it should, its commits and their answers stand where they may, and its history can be
+/// replayed. It is plain and slow: it goes through the entries again for each of them.
 pub fn check(alloc: Global, script_rows: u16, journal: &Journal) -> Result<bool, NoMemory>
     ensures { IfOk result (λ yes. IsTrue yes ↔ IsChecked script_rows journal.now) }
 {
     let entries = journal.as_slice();
     let commits = history(alloc, entries)?;
     for (at, entry) in entries.iter().enumerate() {
-        if !is_good_at(alloc, script_rows, commits.as_slice(), &entries[..at], entry)? {
+        if !is_good_at(
+            alloc,
+            script_rows,
+            commits.as_slice(),
+            &entries[..at],
+            entry,
+        )? {
             return Ok(false);
         }
     }
     let changes = changes_in(alloc, commits.as_slice())?;
     Ok(replays(changes.as_slice()))
 }
+
+#[cfg(test)]
+mod tests;

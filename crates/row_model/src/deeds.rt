@@ -55,7 +55,9 @@ fn stand_after(xid: Xid, entry: &Entry, deeds: &mut Vec<RowDeed>) -> Result<(), 
             }))?;
         }
         Entry::Locked {
-            xid: locker, row, ..
+            xid: locker,
+            row,
+            ..
         } if is_same(xid, *locker) => deeds.push(RowDeed::Locked(*row))?,
         Entry::Undone { xid: undone, left } if is_same(xid, *undone) => {
             deeds.truncate(*left as usize);
@@ -95,11 +97,7 @@ fn changes_of(alloc: Global, deeds: &[RowDeed]) -> Result<Vec<RowChange>, NoMemo
 }
 
 /// The changes of a transaction that stand, the newest first.
-pub fn standing_changes(
-    alloc: Global,
-    xid: Xid,
-    past: &[Entry],
-) -> Result<Vec<RowChange>, NoMemory>
+pub fn standing_changes(alloc: Global, xid: Xid, past: &[Entry]) -> Result<Vec<RowChange>, NoMemory>
     ensures { IfOk result (λ changes. map as_change changes.items ≡ changes_of (standing xid (reverse past.now))) }
 {
     let deeds = standing(alloc, xid, past)?;

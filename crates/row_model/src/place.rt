@@ -127,7 +127,7 @@ fn deed_is_good(
         × (stood (is_commit xid) (reverse past.now) ≡ false)
         × ((y : Xid) → holds y row.0 (reverse past.now) ≡ true → y ≡ xid)) }
 {
-    if row.0 < script_rows && start_of(stmt, past).is_some() && !has_commit(xid, past) {
+    if !has_commit(xid, past) && row.0 < script_rows && start_of(stmt, past).is_some() {
         is_free(alloc, xid, row, past)
     } else {
         Ok(false)

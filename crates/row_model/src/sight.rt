@@ -35,13 +35,9 @@ fn last_after(session: u16, entry: &Entry, past: &[Entry], before: Option<Xid>) 
 {
     match entry {
         Entry::Changed { stmt, xid, .. } | Entry::Locked { stmt, xid, .. }
-            if is_of(session, *stmt, past) =>
-        {
-            Some(*xid)
-        }
-        Entry::Crashed { inst, .. } | Entry::Ended { inst, .. } if is_home(session, *inst, past) => {
-            None
-        }
+            if is_of(session, *stmt, past) => { Some(*xid) }
+        Entry::Crashed { inst, .. } | Entry::Ended { inst, .. } if is_home(session, *inst, past) =>
+            { None }
         _ => before,
     }
 }
@@ -68,11 +64,7 @@ fn own(session: u16, past: &[Entry]) -> Option<Xid>
 }
 
 /// The changes of a session's own transaction that stand, the newest first.
-fn own_changes(
-    alloc: Global,
-    session: u16,
-    past: &[Entry],
-) -> Result<Vec<RowChange>, NoMemory>
+fn own_changes(alloc: Global, session: u16, past: &[Entry]) -> Result<Vec<RowChange>, NoMemory>
     ensures { IfOk result (λ changes. map as_change changes.items ≡ own_changes session (reverse past.now)) }
 {
     match own(session, past) {

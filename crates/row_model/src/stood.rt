@@ -12,7 +12,9 @@ pub fn is_mark(xid: Xid, c: Scn, entry: &Entry) -> bool
 {
     match entry {
         Entry::Marked {
-            xid: marked, c: at, ..
+            xid: marked,
+            c: at,
+            ..
         } => is_same(xid, *marked) && c.0 == at.0,
         _ => false,
     }
@@ -58,7 +60,9 @@ fn is_commit_by(c: Scn, inst: InstNo, entry: &Entry) -> bool
 {
     match entry {
         Entry::Committed {
-            c: at, inst: by, ..
+            c: at,
+            inst: by,
+            ..
         } => c.0 == at.0 && inst.0 == by.0,
         _ => false,
     }
@@ -144,7 +148,8 @@ fn came_up_after(session: u16, entry: &Entry, past: &[Entry], before: bool) -> b
 {
     match entry {
         Entry::Opened {
-            session: opened, ..
+            session: opened,
+            ..
         } => before && session != *opened,
         Entry::Up { inst, .. } => before || is_home(session, *inst, past),
         _ => before,
