@@ -5,3 +5,5 @@ pub mod Sees
 pub mod Stood
 pub mod Good
 pub mod Checked
+pub mod Place
+pub mod Values

@@ -2,9 +2,17 @@
 #![tactic(auto)]
 
 mod cause;
+mod checks;
+mod commits;
+mod deeds;
 mod entry;
+mod past;
+mod place;
+mod sight;
+mod stood;
 
 pub use cause::Cause;
+pub use checks::check;
 pub use entry::{Entry, Journal, RowList};
 pub use rac_nums::Value;
 
