@@ -1,9 +1,9 @@
 -- A checked journal is good at each place, and replays.
-use Rattle.std.proofs.Common.{◌≡◌, ◌∙◌, ℕ, ◌+◌, ◌<◌, suc, List, [], ◌∷◌, ◌++◌, reverse, take, drop, length, get_or, ◌↔◌, refl, ap, sym, subst}
+use Rattle.std.proofs.Common.{◌≡◌, ◌∙◌, ℕ, ◌+◌, ◌<◌, List, [], ◌∷◌, ◌++◌, reverse, take, drop, length, get_or, ap, sym}
 use Rattle.std.proofs.lemmas.List.{take-append-drop, drop_more}
 use Rattle.row_model.specs.declared.entry.Entry.{Entry}
 use Rattle.row_model.specs.Past.{Past, Each}
-use Rattle.row_model.specs.History.{Commit, history}
+use Rattle.row_model.specs.History.{history}
 use Rattle.row_model.specs.Good.{FoundIsSeen, CommitIsProper, AckIsProper, StartIsProper, RowIsFree, GoodReplay}
 use Rattle.row_model.specs.Checked.{RowsExist, IsNamed, RowsAreListed, IsChecked}
 use Rattle.row_model.specs.Place.{IsGoodAt}

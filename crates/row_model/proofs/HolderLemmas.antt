@@ -1,14 +1,13 @@
 -- Who holds a row has made a change entry.
-use Rattle.std.proofs.Common.{◌≡◌, ◌∙◌, ◌⊎◌, inl, inr, ℕ, List, [], ◌∷◌, Bool, true, false, cond, ◌&&◌, ◌||◌, ◌==◌, Option, Some, None, reverse, refl, ap, sym}
+use Rattle.std.proofs.Common.{◌≡◌, ◌∙◌, ◌⊎◌, inl, inr, ℕ, List, [], ◌∷◌, Bool, true, false, cond, ◌||◌, ◌==◌, reverse, refl, sym}
 use Rattle.std.specs.Option.{option_map_or}
 use Rattle.std.specs.List.{list_any}
-use Rattle.std.proofs.lemmas.Bool.{and_parts, or_cases, or_left, or_right}
+use Rattle.std.proofs.lemmas.Bool.{and_parts, or_left, or_right}
 use Rattle.rac_nums.specs.declared.names.Xid.{Xid}
 use Rattle.row_model.specs.declared.entry.Entry.{Entry}
 use Rattle.row_model.specs.declared.entry.Entry.TheVariants.{Changed, Locked, Marked, Rolled}
 use Rattle.row_model.specs.Past.{Past, same_xid, is_loss_of}
 use Rattle.row_model.specs.Standing.{open_after, is_open, holds, row_of, standing}
-use Rattle.row_model.specs.Stood.{stood}
 use Rattle.row_model.specs.Place.{changer}
 use Rattle.row_model.proofs.PastLemmas.{stood_reverse}
 

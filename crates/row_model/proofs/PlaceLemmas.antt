@@ -6,7 +6,6 @@ use Rattle.rac_nums.specs.declared.names.RowNo.{RowNo}
 use Rattle.rac_nums.specs.declared.names.Scn.{Scn}
 use Rattle.rac_nums.specs.declared.names.Xid.{Xid}
 use Rattle.rac_nums.specs.declared.value.Value.{Value}
-use Rattle.row_model.specs.declared.entry.Entry.{Entry}
 use Rattle.row_model.specs.declared.entry.Entry.TheVariants.{Started, Rows, Changed, Locked, Marked, Committed, Acked, Undone, Rolled}
 use Rattle.row_model.specs.Past.{Past, Start, start_of, home_of, is_up}
 use Rattle.row_model.specs.Standing.{holds}

@@ -1,5 +1,5 @@
 -- What the values that `check` keeps stand for.
-use Rattle.std.specs.Prelude.{ℕ, List, map}
+use Rattle.std.specs.Prelude.{map}
 use Rattle.row_model.specs.declared.past.StmtStart.{StmtStart}
 use Rattle.row_model.specs.declared.deeds.RowChange.{RowChange}
 use Rattle.row_model.specs.declared.deeds.RowDeed.{RowDeed}

@@ -54,13 +54,7 @@ fn home_after(session: u16, entry: &Entry, before: Option<InstNo>) -> Option<Ins
         Entry::Opened {
             session: opened,
             inst,
-        } => {
-            if session == *opened {
-                Some(*inst)
-            } else {
-                before
-            }
-        }
+        } if session == *opened => Some(*inst),
         _ => before,
     }
 }

@@ -1,16 +1,15 @@
 -- The journal is good at each place that was looked at, and its history is the one that was made.
-use Rattle.std.proofs.Common.{◌≡◌, ◌∙◌, ◌+◌, ap, sym, subst, List, ◌∷◌, map, reverse, take, drop, length, get_or, arith, false}
+use Rattle.std.proofs.Common.{◌≡◌, ◌∙◌, ◌+◌, ap, sym, subst, List, ◌∷◌, map, reverse, take, drop, length, arith}
 use Rattle.std.proofs.lemmas.Bool.{both_ways}
 use Rattle.std.proofs.lemmas.List.{take_all}
 use Rattle.row_model.specs.declared.entry.Entry.{Entry}
-use Rattle.row_model.specs.Past.{Past, Each}
-use Rattle.row_model.specs.Standing.{Change}
-use Rattle.row_model.specs.History.{Commit, history, history_of_past}
+use Rattle.row_model.specs.Past.{Each}
+use Rattle.row_model.specs.History.{Commit, history}
 use Rattle.row_model.specs.Good.{Replays, changes_in}
 use Rattle.row_model.specs.Place.{IsGoodAt}
 use Rattle.row_model.specs.Values.{as_change, as_commit}
 use Rattle.row_model.proofs.PlaceLemmas.{iff_never}
-use Rattle.row_model.proofs.CheckLemmas.{IsChecked-from, Each-from_checked, good-at, drop_entry}
+use Rattle.row_model.proofs.CheckLemmas.{IsChecked-from, good-at, drop_entry}
 use Rattle.row_model.proofs.checks.check.Goals as goal
 
 pub returns-then-not-branch : goal.returns-then-not-branch

@@ -1,5 +1,5 @@
 -- Who holds the row has made a change entry, and each of those was looked at.
-use Rattle.std.proofs.Common.{refl, ◌≤◌, length, rules}
+use Rattle.std.proofs.Common.{refl}
 use Rattle.std.proofs.lemmas.List.{take_all}
 use Rattle.row_model.proofs.HolderLemmas.{holds-deed}
 use Rattle.row_model.proofs.place.is_free.Goals as goal

@@ -1,8 +1,5 @@
 -- Each kind of entry is asked what its own parts say.
-use Rattle.std.proofs.Common.{rules}
-use Rattle.std.proofs.lemmas.Result.{IfOk-weaker}
-use Rattle.row_model.specs.Place.{IsGoodAt}
-use Rattle.row_model.proofs.PlaceLemmas.{iff_trans, iff_never, not_iff, started_iff, rows_iff, changed_iff, locked_iff, marked_iff, undone_iff, rolled_iff, committed_iff, acked_iff}
+use Rattle.row_model.proofs.PlaceLemmas.{iff_trans, not_iff, marked_iff, undone_iff, committed_iff, acked_iff}
 use Rattle.row_model.proofs.place.is_good_at.Goals as goal
 
 pub returns-in-Marked : goal.returns-in-Marked
