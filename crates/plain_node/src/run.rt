@@ -1,5 +1,5 @@
 ghost use Rattle.std.specs.Prelude.{◌≡◌, ◌<◌, ℕ, List, ◌∷◌, ◌++◌, length, All, Option, IfSome, OnOk, IfOk};
-ghost use Rattle.row_model.specs.Past.{session_in};
+ghost use Rattle.script_text.specs.Lines.{session_in};
 ghost use Rattle.script_text.specs.declared.item.Item.{Item};
 ghost use Rattle.row_model.specs.Good.{Range, GoodRows, GoodFound, GoodCommits, GoodAcknowledgements, GoodStarts, GoodRowLocks, GoodReplay};
 ghost use Rattle.script_text.specs.ScriptParts.{ScriptParts};

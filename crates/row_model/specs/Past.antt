@@ -17,12 +17,6 @@ Each P (e ∷ past) = P past e × Each P past
 abbrev pub same_xid : Xid → Xid → Bool
 same_xid x y = x.seg.0 == y.seg.0 && x.slot == y.slot && x.wrap == y.wrap
 
--- the session that an entry names
-abbrev pub session_in : Entry → Option ℕ
-session_in (Opened z i) = Some z
-session_in (Started n z s) = Some z
-session_in _ = None
-
 -- what a start says: the session of the statement, and the SCN up to which it sees commits
 pub record Start : Type 0 where
   pub session : ℕ

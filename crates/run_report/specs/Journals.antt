@@ -6,7 +6,7 @@ use Rattle.std.specs.Option.{option_map_or}
 use Rattle.rac_nums.specs.Texts.{value_text, xid_text}
 use Rattle.row_model.specs.declared.entry.Entry.{Entry}
 use Rattle.row_model.specs.declared.entry.Entry.TheVariants.{Opened, Started, Rows, Changed, Locked, Marked, Committed, Acked, Undone, Rolled, Plain, Refused, Crashed, Ended, Recovered, Up, Moved, Checkpointed, NotDone}
-use Rattle.row_model.specs.Past.{session_in}
+use Rattle.script_text.specs.Lines.{session_in}
 use Rattle.script_text.specs.ScriptParts.{ScriptParts}
 use Rattle.run_report.specs.Texts.{◌⧺◌, rows_text, cause_text}
 

@@ -4,7 +4,7 @@ use Rattle.std.specs.List.{list_any}
 use Rattle.std.specs.Option.{option_and_then, option_map_or}
 use Rattle.rac_nums.specs.declared.names.InstNo.{InstNo}
 use Rattle.row_model.specs.declared.entry.Entry.{Entry}
-use Rattle.row_model.specs.declared.entry.Entry.TheVariants.{Rows, Changed, Locked, Acked, Plain, Refused}
+use Rattle.row_model.specs.declared.entry.Entry.TheVariants.{Opened, Started, Rows, Changed, Locked, Acked, Plain, Refused}
 use Rattle.row_model.specs.Past.{Past}
 use Rattle.row_model.specs.Stood.{stood}
 use Rattle.script_text.specs.declared.item.Item.{Item}
@@ -12,6 +12,12 @@ use Rattle.script_text.specs.declared.item.Item.TheVariants as items
 use Rattle.script_text.specs.declared.item.Stmt.{Stmt}
 use Rattle.script_text.specs.ScriptParts.{ScriptParts}
 use Rattle.script_text.specs.Reading.{item_at}
+
+-- the session that an entry names
+abbrev pub session_in : Entry → Option ℕ
+session_in (Opened z i) = Some z
+session_in (Started n z s) = Some z
+session_in _ = None
 
 -- the statement that an entry answers, by its line
 abbrev pub answered : Entry → Option ℕ

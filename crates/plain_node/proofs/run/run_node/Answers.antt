@@ -2,7 +2,7 @@
 use Rattle.std.proofs.Common.{length, IfSome, ◌<◌}
 use Rattle.std.proofs.lemmas.List.Elements.{All-nil}
 use Rattle.row_model.specs.declared.entry.Entry.{Entry}
-use Rattle.row_model.specs.Past.{session_in}
+use Rattle.script_text.specs.Lines.{session_in}
 use Rattle.script_text.specs.Asked.{asked}
 use Rattle.plain_node.proofs.LineLemmas.{Asks-script, plain-script}
 use Rattle.plain_node.proofs.run.run_node.Goals as goal
