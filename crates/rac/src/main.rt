@@ -7,10 +7,9 @@ use notes::note_line;
 use rac_io::{StdSink, StdSource};
 use rac_top::{Exit, Note, rac};
 use row_model::Journal;
-use std::env;
-use std::io;
 use std::process::ExitCode;
 use std::rt::Env;
+use std::{env, io};
 
 /// The words after the program's name.
 fn read_words<R: Env + AllocGlobal>(rt: &R) -> io::Result<Vec<String>> {
