@@ -4,3 +4,5 @@ pub mod StepLemmas
 pub mod LineLemmas
 pub mod FitsLemmas
 pub mod ProperLemmas
+pub mod LinedLemmas
+pub mod LinedSteps

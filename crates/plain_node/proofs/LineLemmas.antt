@@ -1,6 +1,6 @@
 -- Lists of lines: the next one, and what each asks.
 use Rattle.std.specs.Prelude.{if◌then◌else◌}
-use Rattle.std.proofs.Common.{◌≡◌, ◌∙◌, ◌≢◌, ℕ, zero, suc, ◌+◌, ◌<◌, List, [], ◌∷◌, ◌++◌, Option, Some, None, drop, length, get_or, refl, ap, sym, arith, add-one, Bool, true, false, ◌==◌, cond, ◌≤◌, ◌^◌, ◌*◌, nat_lt}
+use Rattle.std.proofs.Common.{◌≡◌, ◌∙◌, ◌≢◌, ℕ, zero, suc, ◌+◌, ◌<◌, List, [], ◌∷◌, ◌++◌, Option, Some, None, drop, length, get_or, refl, ap, sym, arith, add-one, Bool, true, false, ◌==◌, cond, ◌||◌, ◌≤◌, ◌^◌, ◌*◌, nat_lt, subst, append-nil}
 use Rattle.std.proofs.Math.Seq.{drop-cons}
 use Rattle.std.proofs.lemmas.List.{append_assoc}
 use Rattle.std.proofs.lemmas.Bool.{eq-eqb, ne_eqb, le-ltb, lt-ltb}
@@ -10,59 +10,109 @@ use Rattle.plain_node.specs.declared.node.Node.{Node}
 use Rattle.script_text.specs.declared.item.Item.TheVariants.{Session, CrashAfter, CrashMark, Start, Remaster, Checkpoint, Hold}
 use Rattle.script_text.specs.declared.item.Item.TheVariants.{Stmt as Statement}
 use Rattle.script_text.specs.ScriptParts.{ScriptParts}
-use Rattle.script_text.specs.Reading.{item_in, items_of}
+use Rattle.script_text.specs.Reading.{item_in, item_at, joined, items_of}
 use Rattle.script_text.specs.Asked.{range_asked}
 use Rattle.script_text.specs.WellFormed.{RiseWithin, IsItemWithin, AreItemsWithin, IsOpened, opened_after, AreOpened, IsRead, AreRead, IsWellFormed}
 use Rattle.std.specs.Option.{option_and_then}
-use Rattle.plain_node.specs.Asked.{Asks, NamesBelow}
+use Rattle.plain_node.specs.Lined.{last_line, NamesBelow, Opens, IsNext, AreNext}
+use Rattle.script_text.specs.Lines.{opening, opening_in, earlier, AreAnswered}
+use Rattle.row_model.specs.Past.{Past}
+use Rattle.std.specs.List.{list_any}
+use Rattle.rac_nums.specs.declared.names.InstNo.{InstNo}
 use Rattle.plain_node.specs.Runs.{RunsPlainly, IsPlain, opens}
 
 -- the item that stands first in what is left
 pub drop-item : {A : Type 0} (xs : List A) (i : ℕ) (x : A) → i < length xs → x ≡ get_or xs i x → drop i xs ≡ x ∷ drop (i + 1) xs
 drop-item {A} xs i x within is = rw add-one (drop-cons xs i x within ∙ ap (λ (y : A). y ∷ drop (suc i) xs) (sym is))
 
-module _ (rows : ℕ → Option Range) (sessions : ℕ) where
-  pub Asks-drop : (i : ℕ) (lines : List (ℕ × Item)) → Asks rows sessions lines → Asks rows sessions (drop i lines)
-  Asks-drop zero lines asks = asks
-  Asks-drop (suc i) [] asks = tt
-  Asks-drop (suc i) (line ∷ lines) asks = Asks-drop i lines asks.2
+-- the lines after a front come next after it
+pub AreNext-split : (parts : ScriptParts) (done xs ys : List (ℕ × Item)) → AreNext parts done (xs ++ ys) → AreNext parts done xs × AreNext parts (done ++ xs) ys
+AreNext-split parts done [] ys next = (tt, rw append-nil next)
+AreNext-split parts done (x ∷ xs) ys next =
+    let rest = AreNext-split parts (done ++ x ∷ []) xs ys next.1 in
+    ((next.0, rest.0), subst (λ (front : List (ℕ × Item)). AreNext parts front ys) (append_assoc done (x ∷ []) xs) rest.1)
 
-  pub Asks-front : (lines more : List (ℕ × Item)) → Asks rows sessions (lines ++ more) → Asks rows sessions lines
-  Asks-front [] more asks = tt
-  Asks-front (line ∷ lines) more asks = (asks.0, asks.1, Asks-front lines more asks.2)
+pub last_line-push : (before : ℕ) (xs : List (ℕ × Item)) (x : ℕ × Item) → last_line before (xs ++ x ∷ []) ≡ x.0
+last_line-push before [] x = refl
+last_line-push before (y ∷ xs) x = last_line-push y.0 xs x
 
-  pub Asks-back : (lines more : List (ℕ × Item)) → Asks rows sessions (lines ++ more) → Asks rows sessions more
-  Asks-back [] more asks = asks
-  Asks-back (line ∷ lines) more asks = Asks-back lines more asks.2
+-- numbers that rise are above those before
+rise-above : (before most : ℕ) (done : List (ℕ × Item)) (line : ℕ × Item) (rest : List (ℕ × Item)) → RiseWithin before most (done ++ line ∷ rest) → (before < line.0) × (last_line before done < line.0)
+rise-above before most [] line rest rise = (rise.0, rise.0)
+rise-above before most (d ∷ done) line rest rise =
+    let above = rise-above d.0 most done line rest rise.2 in
+    ((let a = above.0 in let b = rise.0 in omega arith), above.1)
 
--- the rows that a line asks for, by a list of lines
-abbrev look : List (ℕ × Item) → ℕ → Option Range
-look lines n = option_and_then range_asked (item_in lines n)
+item-found : (before most : ℕ) (done : List (ℕ × Item)) (line : ℕ × Item) (rest : List (ℕ × Item)) → RiseWithin before most (done ++ line ∷ rest) → item_in (done ++ line ∷ rest) line.0 ≡ Some line.1
+item-found before most [] line rest rise = rw (eq-eqb line.0 line.0 refl) refl
+item-found before most (d ∷ done) line rest rise =
+    let above = (rise-above d.0 most done line rest rise.2).0 in
+    rw (ne_eqb d.0 line.0 (λ e. omega arith)) (item-found d.0 most done line rest rise.2)
 
--- what lines of later numbers ask doesn't depend on an earlier line
-Asks-later : (line : ℕ × Item) (all : List (ℕ × Item)) (last sessions : ℕ) (opened : Bool) (lines : List (ℕ × Item))
-    → line.0 < last + 1 → RunsPlainly last opened lines → Asks (look all) sessions lines → Asks (look (line ∷ all)) sessions lines
-Asks-later line all last sessions opened [] before runs asks = tt
-Asks-later line all last sessions opened (next ∷ lines) before runs asks = (
-  rw (ne_eqb line.0 next.0 (λ e. let h = runs.0 in omega arith)) asks.0,
-  asks.1,
-  Asks-later line all next.0 sessions (opens opened next.1) lines (let h = runs.0 in omega arith) runs.3 asks.2,
-)
+opening-found : (opened : ℕ) (done : List (ℕ × Item)) (n session : ℕ) (inst : InstNo) (rest : List (ℕ × Item)) → AreOpened opened (done ++ (n, Session session inst) ∷ rest)
+    → (opened ≤ session) × (opening session (done ++ (n, Session session inst) ∷ rest) ≡ Some (n, inst))
+opening-found opened [] n session inst rest is = (let e = is.0 in omega arith, rw (eq-eqb session session refl) refl)
+opening-found opened (d ∷ done) n session inst rest is = by_item d.1 is.0 (opening-found (opened_after opened d.1) done n session inst rest is.1)
+  where
+    by_item : (item : Item) → IsOpened opened item → (opened_after opened item ≤ session) × (opening session (done ++ (n, Session session inst) ∷ rest) ≡ Some (n, inst))
+        → (opened ≤ session) × (opening_in session d.0 item (opening session (done ++ (n, Session session inst) ∷ rest)) ≡ Some (n, inst))
+    by_item (Session s i) here more = (let a = more.0 in omega arith, rw (ne_eqb session s (λ e. let a = more.0 in let b = here in omega arith)) more.1)
+    by_item (Statement s what) here more = more
+    by_item (CrashAfter i steps keep) here more = more
+    by_item (CrashMark i keep) here more = more
+    by_item (Start i) here more = more
+    by_item (Remaster bucket to) here more = more
+    by_item (Checkpoint i) here more = more
+    by_item (Hold reader until) here more = more
+
+or-right : (a b : Bool) → (a || b) ≡ false → b ≡ false
+or-right false b h = h
+or-right true b h = (cc)
+
+-- a line that isn't in a wave comes after it
+behind-wave : (wave more done : List (ℕ × Item)) (line : ℕ × Item) (rest : List (ℕ × Item)) → wave ++ more ≡ done ++ line ∷ rest → list_any (λ (w : ℕ × Item). w.0 == line.0) wave ≡ false
+    → (after : List (ℕ × Item)) × (done ≡ wave ++ after) × (more ≡ after ++ line ∷ rest)
+behind-wave [] more done line rest same out = (done, refl, same)
+behind-wave (w ∷ wave) more [] line rest same out =
+    let first : w ≡ line = (cc) in
+    let here : (w.0 == line.0) ≡ true = rw first (eq-eqb line.0 line.0 refl) in
+    absurd (let clash : true ≡ false = sym (rw here refl) ∙ out in (cc))
+behind-wave (w ∷ wave) more (d ∷ done) line rest same out =
+    let first : w ≡ d = (cc) in
+    let others : wave ++ more ≡ done ++ line ∷ rest = (cc) in
+    let found = behind-wave wave more done line rest others (or-right (w.0 == line.0) _ out) in
+    (found.0, ap (λ (xs : List (ℕ × Item)). d ∷ xs) found.1 ∙ ap (λ (x : ℕ × Item). x ∷ (wave ++ found.0)) (sym first), found.2)
+
+AreAnswered-split : (xs ys : List (ℕ × Item)) (past : Past) → AreAnswered (xs ++ ys) past → AreAnswered xs past × AreAnswered ys past
+AreAnswered-split [] ys past h = (tt, h)
+AreAnswered-split (x ∷ xs) ys past h = let rest = AreAnswered-split xs ys past h.1 in ((h.0, rest.0), rest.1)
+
+AreAnswered-join : (xs ys : List (ℕ × Item)) (past : Past) → AreAnswered xs past → AreAnswered ys past → AreAnswered (xs ++ ys) past
+AreAnswered-join [] ys past a b = b
+AreAnswered-join (x ∷ xs) ys past a b = (a.0, AreAnswered-join xs ys past a.1 b)
+
+earlier-by : (b : Bool) (wave : List (ℕ × Item)) (waves : List (List (ℕ × Item))) (done : List (ℕ × Item)) (line : ℕ × Item) (rest : List (ℕ × Item)) (past : Past)
+    → list_any (λ (w : ℕ × Item). w.0 == line.0) wave ≡ b → joined (wave ∷ waves) ≡ done ++ line ∷ rest → AreAnswered done past
+    → ((after : List (ℕ × Item)) → joined waves ≡ after ++ line ∷ rest → AreAnswered after past → AreAnswered (earlier line.0 waves) past)
+    → AreAnswered (cond b [] (wave ++ earlier line.0 waves)) past
+earlier-by true wave waves done line rest past is same h more = tt
+earlier-by false wave waves done line rest past is same h more =
+    let found = behind-wave wave (joined waves) done line rest same is in
+    let split = AreAnswered-split wave found.0 past (rw found.1 at h) in
+    AreAnswered-join wave (earlier line.0 waves) past split.0 (more found.0 found.2 split.1)
+
+-- the waves before the one of a line were run where the lines before it were
+earlier-done : (waves : List (List (ℕ × Item))) (done : List (ℕ × Item)) (line : ℕ × Item) (rest : List (ℕ × Item)) → joined waves ≡ done ++ line ∷ rest
+    → (past : Past) → AreAnswered done past → AreAnswered (earlier line.0 waves) past
+earlier-done [] done line rest same past h = tt
+earlier-done (wave ∷ waves) done line rest same past h =
+    earlier-by (list_any (λ (w : ℕ × Item). w.0 == line.0) wave) wave waves done line rest past refl same h
+      (λ after behind answered. earlier-done waves after line rest behind past answered)
 
 names-below : (sessions instances rows : ℕ) (item : Item) → IsItemWithin sessions instances rows item → NamesBelow sessions item
 names-below sessions instances rows (Session session inst) within = within.0
 names-below sessions instances rows (Statement session what) within = within.0
 names-below sessions instances rows _ within = tt
-
--- each line asks what the look-up says, and names a session of the script
-Asks-own : (last sessions instances rows : ℕ) (opened : Bool) (lines : List (ℕ × Item)) → RunsPlainly last opened lines → AreItemsWithin sessions instances rows lines → Asks (look lines) sessions lines
-Asks-own last sessions instances rows opened [] runs within = tt
-Asks-own last sessions instances rows opened (line ∷ lines) runs within = (
-  rw (eq-eqb line.0 line.0 refl) refl,
-  names-below sessions instances rows line.1 within.0,
-  Asks-later line lines line.0 sessions (opens opened line.1) lines (omega arith) runs.3
-      (Asks-own line.0 sessions instances rows (opens opened line.1) lines runs.3 within.1),
-)
 
 module _ (most sessions instances rows : ℕ) (numbers : most < 2 ^ 32) (few : sessions ≤ 1) (one : instances ≤ 1) where
   plain-item : (opened : ℕ) (item : Item) → IsItemWithin sessions instances rows item → IsOpened opened item → IsRead item → IsPlain (nat_lt 0 opened) item
@@ -97,6 +147,30 @@ plain-script parts well =
     plain-lines parts.lines (length parts.names) parts.settings.instances (8 * parts.settings.blocks) (let h = well.lines_fit in omega arith) well.sessions_today well.instances_today
     0 0 (items_of parts) well.lines_rise well.items_within well.items_opened well.items_read
 
-pub Asks-script : (parts : ScriptParts) → IsWellFormed parts → Asks (look (items_of parts)) (length parts.names) (items_of parts)
-Asks-script parts well =
-    Asks-own 0 (length parts.names) parts.settings.instances (8 * parts.settings.blocks) false (items_of parts) (plain-script parts well) well.items_within
+within-at : (sessions instances rows : ℕ) (done : List (ℕ × Item)) (line : ℕ × Item) (rest : List (ℕ × Item)) → AreItemsWithin sessions instances rows (done ++ line ∷ rest) → IsItemWithin sessions instances rows line.1
+within-at sessions instances rows [] line rest within = within.0
+within-at sessions instances rows (d ∷ done) line rest within = within-at sessions instances rows done line rest within.1
+
+opens-at : (parts : ScriptParts) (done : List (ℕ × Item)) (n : ℕ) (item : Item) (rest : List (ℕ × Item)) → items_of parts ≡ done ++ (n, item) ∷ rest → AreOpened 0 (done ++ (n, item) ∷ rest) → Opens parts n item
+opens-at parts done n (Session session inst) rest same is = rw same (opening-found 0 done n session inst rest is).1
+opens-at parts done n (Statement session what) rest same is = tt
+opens-at parts done n (CrashAfter inst steps keep) rest same is = tt
+opens-at parts done n (CrashMark inst keep) rest same is = tt
+opens-at parts done n (Start inst) rest same is = tt
+opens-at parts done n (Remaster bucket to) rest same is = tt
+opens-at parts done n (Checkpoint inst) rest same is = tt
+opens-at parts done n (Hold reader until) rest same is = tt
+
+-- the lines of a well-formed script come one after another
+pub all-next : (parts : ScriptParts) (done rest : List (ℕ × Item)) → IsWellFormed parts → items_of parts ≡ done ++ rest → AreNext parts done rest
+all-next parts done [] well same = tt
+all-next parts done (line ∷ rest) well same =
+    (record {
+      asks = rw same (item-found 0 parts.lines done line rest (rw same at well.lines_rise));
+      opens = opens-at parts done line.0 line.1 rest same (rw same at well.items_opened);
+      names = names-below (length parts.names) parts.settings.instances (8 * parts.settings.blocks) line.1
+        (within-at (length parts.names) parts.settings.instances (8 * parts.settings.blocks) done line rest (rw same at well.items_within));
+      earlier_done = earlier-done parts.waves done line rest same;
+      later = (rise-above 0 parts.lines done line rest (rw same at well.lines_rise)).1;
+    },
+    all-next parts (done ++ line ∷ []) rest well (same ∙ sym (append_assoc done (line ∷ []) rest)))

@@ -28,7 +28,7 @@ use Rattle.plain_node.proofs.ProperLemmas.{Proper-opened, Proper-started, Proper
 use Rattle.plain_node.specs.Runs.{IsSound, IsProper}
 use Rattle.plain_node.proofs.SoundLemmas.{Sound-opened, Sound-plain, Sound-started, start_of-told, Sound-rows, changed as Sound-changed, Sound-committed, wrap_at-ended, own_changes-own}
 
-reverse_push : {A : Type 0} (xs : List A) (x : A) → reverse (xs ++ x ∷ []) ≡ x ∷ reverse xs
+pub reverse_push : {A : Type 0} (xs : List A) (x : A) → reverse (xs ++ x ∷ []) ≡ x ∷ reverse xs
 reverse_push xs x = reverse-append xs (x ∷ [])
 
 module _ (asked : ℕ → Option Range) where
@@ -40,7 +40,7 @@ module _ (asked : ℕ → Option Range) where
   IsSound-started node n sound =
       IsSound-told node (Started n 0 node.known) (Sound-started asked 0 (reverse node.journal) (parts_of node) n node.known refl sound)
 
-  start-told : (node : Node) (n : ℕ) → start_of n (reverse (started node n 0).journal) ≡ Some (record { session = 0; s = node.known.0 })
+  pub start-told : (node : Node) (n : ℕ) → start_of n (reverse (started node n 0).journal) ≡ Some (record { session = 0; s = node.known.0 })
   start-told node n = rw (reverse_push node.journal (Started n 0 node.known)) (start_of-told asked 0 (reverse node.journal) n node.known)
 
   pub IsSound-got : (node : Node) (n : ℕ) (row : RowNo) → asked n ≡ Some (record { first = row.0; count = 1 }) → IsSound asked node → IsSound asked (got node n 0 row)
@@ -50,7 +50,7 @@ module _ (asked : ℕ → Option Range) where
       (start-told node n) refl (IsSound-started node n sound))
 
   -- a slot that was taken was taken once more
-  wrap_at-begun : (node : Node) (k j : ℕ) → k < length node.slots → wrap_at node.slots j ≤ wrap_at (begun node k).slots j
+  pub wrap_at-begun : (node : Node) (k j : ℕ) → k < length node.slots → wrap_at node.slots j ≤ wrap_at (begun node k).slots j
   wrap_at-begun node k j within = by_place (eqb_tells j k)
     where
       taken : SlotUse
@@ -156,7 +156,7 @@ module _ (asked : ℕ → Option Range) where
       rw (reverse_push node.journal (Opened 0 i))
       (Proper-opened asked 0 (reverse node.journal) (parts_of node) (parts_of (opened node 0 i)) i zero_is refl refl refl refl proper)
 
-  IsProper-started : (node : Node) (n : ℕ) → is_some node.home ≡ true → IsSound asked node → IsProper node → IsProper (started node n 0)
+  pub IsProper-started : (node : Node) (n : ℕ) → is_some node.home ≡ true → IsSound asked node → IsProper node → IsProper (started node n 0)
   IsProper-started node n home sound proper =
       IsProper-told node (Started n 0 node.known) (Proper-started asked 0 (reverse node.journal) (parts_of node) n node.known refl home sound proper)
 

@@ -2,5 +2,5 @@ pub mod Versions
 pub mod Slots
 pub mod Steps
 pub mod Sound
-pub mod Asked
 pub mod Runs
+pub mod Lined

@@ -47,9 +47,3 @@ IsProper node = Proper 0 (reverse node.journal) (parts_of node)
 -- each session that the journal names is below a number
 abbrev pub IsNamed : ℕ → Node → Type 0
 IsNamed sessions node = All (λ e. IfSome (session_in e) (λ z. z < sessions)) node.journal
-
--- the node's state and its journal are right
-pub record IsRight (rows : ℕ → Option Range) (sessions : ℕ) (node : Node) : Type 0 where
-  pub sound : IsSound rows node
-  pub proper : IsProper node
-  pub named : IsNamed sessions node

@@ -2,8 +2,11 @@
 use Rattle.script_text.specs.declared.item.Item.{Item}
 use Rattle.std.proofs.Common.{ℕ, List, get_or, ◌∙◌, ◌++◌, ◌+◌, ◌≤◌, drop, length, rules, ap, arith}
 use Rattle.std.proofs.lemmas.List.{drop_all}
-use Rattle.plain_node.specs.Asked.{Asks}
-use Rattle.plain_node.proofs.LineLemmas.{drop-item, Asks-drop}
+use Rattle.std.proofs.Common.{◌∷◌, [], append_assoc, append-nil, subst}
+use Rattle.std.specs.Option.{option_and_then}
+use Rattle.script_text.specs.Asked.{asked, range_asked}
+use Rattle.plain_node.specs.Lined.{last_line, IsRight}
+use Rattle.plain_node.proofs.LineLemmas.{drop-item, last_line-push}
 use Rattle.plain_node.proofs.run.run_wave.Goals as goal
 
 pub answer-requires : goal.answer-requires
@@ -20,17 +23,31 @@ loop-line-preserved c =
     (c.line-item.is ∙ ap (λ (lines : List (ℕ × Item)). get_or lines c.loop-line.line-index c.line-item.result) c.as_slice-line-items.ensures) in
     record {
       runs = λ more can. c.in_ok-answer.ensures.runs (drop (c.loop-line.line-index + 1) c.args.wave.now ++ more) (rw cut at (c.loop-line.invariant.runs more can));
-      sound = λ rows sessions asks r.
-          let so_far = c.loop-line.invariant.sound rows sessions asks r in
-          let here = rw cut at (Asks-drop rows sessions c.loop-line.line-index c.args.wave.now asks) in
-          record {
-            sound = c.in_ok-answer.ensures.sound rows here.0 so_far.sound;
-            proper = c.in_ok-answer.ensures.proper rows so_far.sound so_far.proper;
-            named = c.in_ok-answer.ensures.named sessions here.1 so_far.named;
-          };
+      right = λ parts before next r.
+        let so_far = c.loop-line.invariant.right parts before next r in
+        let done = so_far.0 in
+        let after = rw cut at so_far.2 in
+        let line = c.line-item.result in
+        let right = so_far.3 in
+        (done ++ line ∷ [],
+         append_assoc done (line ∷ []) (drop (c.loop-line.line-index + 1) c.args.wave.now) ∙ rw cut at so_far.1,
+         after.1,
+         record {
+           sound = c.in_ok-answer.ensures.sound (asked parts) (ap (option_and_then range_asked) after.0.asks) right.sound;
+           proper = c.in_ok-answer.ensures.proper (asked parts) right.sound right.proper;
+           named = c.in_ok-answer.ensures.named (length parts.names) after.0.names right.named;
+           lined = rw (last_line-push 0 done line) (c.in_ok-answer.ensures.lined parts done (last_line 0 done) after.0 right.sound right.proper right.lined);
+         });
     }
 
 pub returns-clause-runs : goal.returns-clause-runs
 returns-clause-runs c more can =
     let le : length c.args.wave.now ≤ c.loop-line.line-index = search rules in
     rw (drop_all c.loop-line.line-index c.args.wave.now le) at (c.loop-line.invariant.runs more can)
+
+pub returns-clause-right : goal.returns-clause-right
+returns-clause-right c parts before next r =
+    let le : length c.args.wave.now ≤ c.loop-line.line-index = search rules in
+    let so_far = c.loop-line.invariant.right parts before next r in
+    let all = rw (drop_all c.loop-line.line-index c.args.wave.now le, append-nil so_far.0) at so_far.1 in
+    subst (λ (done : List (ℕ × Item)). IsRight parts done c.loop-line.node) all so_far.3

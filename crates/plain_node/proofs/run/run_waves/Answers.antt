@@ -3,8 +3,10 @@ use Rattle.script_text.specs.declared.item.Item.{Item}
 use Rattle.std.proofs.Common.{ℕ, List, get_or, ◌∙◌, ◌++◌, ◌+◌, ◌≤◌, drop, length, rules, ap, arith}
 use Rattle.std.proofs.lemmas.Result.{on_ok_weaker}
 use Rattle.script_text.specs.Reading.{joined}
-use Rattle.plain_node.specs.Asked.{Asks}
-use Rattle.plain_node.proofs.LineLemmas.{drop-item, Asks-front, Asks-back}
+use Rattle.std.proofs.Common.{append_assoc, append-nil, subst}
+use Rattle.std.proofs.lemmas.List.{drop_all}
+use Rattle.plain_node.specs.Lined.{IsRight}
+use Rattle.plain_node.proofs.LineLemmas.{drop-item, AreNext-split}
 use Rattle.plain_node.proofs.run.run_waves.Goals as goal
 
 pub run_wave-requires : goal.run_wave-requires
@@ -20,13 +22,20 @@ loop-wave-preserved c =
     let rest = joined (drop (c.loop-wave.wave-index + 1) c.args.waves.now) in
     record {
       runs = c.in_ok-run_wave.ensures.runs rest (rw cut at c.loop-wave.invariant.runs);
-      sound = λ rows sessions asks.
-          let so_far = c.loop-wave.invariant.sound rows sessions asks in
-          let left = rw cut at so_far.0 in (
-            Asks-back rows sessions c.wave-item.result rest left,
-            λ r. c.in_ok-run_wave.ensures.sound rows sessions (Asks-front rows sessions c.wave-item.result rest left) (so_far.1 r),
-          );
+      right = λ parts next r.
+        let so_far = c.loop-wave.invariant.right parts next r in
+        let split = AreNext-split parts so_far.0 c.wave-item.result rest (rw cut at so_far.2) in
+        (so_far.0 ++ c.wave-item.result,
+         append_assoc so_far.0 c.wave-item.result rest ∙ rw cut at so_far.1,
+         split.1,
+         c.in_ok-run_wave.ensures.right parts so_far.0 split.0 so_far.3);
     }
 
 pub returns : goal.returns
-returns c = record { sound = λ rows sessions asks. (c.loop-wave.invariant.sound rows sessions asks).1 }
+returns c = record {
+  right = λ parts next r.
+    let le : length c.args.waves.now ≤ c.loop-wave.wave-index = search rules in
+    let so_far = c.loop-wave.invariant.right parts next r in
+    let all = rw (drop_all c.loop-wave.wave-index c.args.waves.now le, append-nil so_far.0) at so_far.1 in
+    subst (λ (done : List (ℕ × Item)). IsRight parts done c.loop-wave.node) all so_far.3;
+}
