@@ -3,6 +3,7 @@ use Rattle.std.specs.Prelude.{◌≡◌, ℕ, List, Result, Ok, Err}
 use Rattle.row_model.specs.declared.entry.Entry.{Entry}
 use Rattle.row_model.specs.Good.{GoodRows, GoodFound, GoodCommits, GoodAcknowledgements, GoodStarts, GoodRowLocks, GoodReplay}
 use Rattle.script_text.specs.Asked.{asked}
+use Rattle.script_text.specs.GoodLines.{GoodLines, AllAnswered}
 use Rattle.script_text.specs.ScriptParts.{ScriptParts}
 use Rattle.script_text.specs.Reading.{Refusal}
 use Rattle.rac_top.specs.declared.reading.Unread.{Unread}
@@ -28,3 +29,5 @@ pub record IsGoodRun (parts : ScriptParts) (journal : List Entry) : Type 0 where
   pub starts : GoodStarts journal
   pub row_locks : GoodRowLocks journal
   pub replay : GoodReplay journal
+  pub lines : GoodLines parts journal
+  pub answered : AllAnswered parts journal

@@ -5,6 +5,7 @@ ghost use Rattle.row_model.specs.Good.{GoodRows, GoodFound, GoodCommits, GoodAck
 ghost use Rattle.script_text.specs.ScriptParts.{ScriptParts};
 ghost use Rattle.script_text.specs.Reading.{Refusal, reading};
 ghost use Rattle.script_text.specs.Asked.{asked};
+ghost use Rattle.script_text.specs.GoodLines.{GoodLines, AllAnswered};
 ghost use Rattle.rac_top.specs.Words.{journal_asked};
 ghost use Rattle.rac_top.specs.Runs.{Says};
 ghost use Rattle.rac_io.specs.Write.{AppendsPart};
@@ -99,6 +100,10 @@ pub fn rac<S: Source, K: Sink>(
     ensures starts { GoodStarts result.journal }
     ensures row_locks { GoodRowLocks result.journal }
     ensures replay { GoodReplay result.journal }
+    ensures lines { IfSome (S.left source.old) (λ text. (parts : ScriptParts) → reading text ≡ Ok parts →
+        GoodLines parts result.journal) }
+    ensures answered { result.status ≡ 0 → IfSome (S.left source.old) (λ text. (parts : ScriptParts) →
+        reading text ≡ Ok parts → AllAnswered parts result.journal) }
 {
     let Some(with_journal) = read_words(words) else {
         return without_run(alloc, 2, Note::Usage);
