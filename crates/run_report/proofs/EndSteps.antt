@@ -1,5 +1,5 @@
 -- What one entry more changes of the ends that were found.
-use Rattle.std.proofs.Common.{◌≡◌, ℕ, Bool, true, false, not, ◌||◌, ◌&&◌, eqb, eqb-true, nat_eq, List, ◌∷◌, refl, ap, sym, ◌∙◌}
+use Rattle.std.proofs.Common.{◌≡◌, ℕ, Bool, true, false, not, ◌||◌, ◌&&◌, eqb-true, List, ◌∷◌, refl, ap, ◌∙◌}
 use Rattle.std.specs.Prelude.{◌==◌}
 use Rattle.rac_nums.specs.declared.names.InstNo.{InstNo}
 use Rattle.row_model.specs.declared.entry.Entry.{Entry}

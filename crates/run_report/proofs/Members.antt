@@ -1,5 +1,5 @@
 -- A text for each number in turn.
-use Rattle.std.proofs.Common.{◌≡◌, ℕ, zero, suc, ◌+◌, List, [], ◌∷◌, ◌++◌, flat_map, arith, refl, sym, ap, append_assoc, append-nil, add-one, ◌∙◌}
+use Rattle.std.proofs.Common.{◌≡◌, ℕ, zero, suc, ◌+◌, List, ◌++◌, flat_map, arith, sym, ap, append_assoc, append-nil, add-one, ◌∙◌}
 use Rattle.std.specs.List.{range_with_len}
 
 numbers-more : (f : ℕ → List ℕ) (a n j : ℕ) → a + n ≡ j → flat_map f (range_with_len a (suc n)) ≡ flat_map f (range_with_len a n) ++ f j

@@ -1,5 +1,5 @@
 -- Which entry answers a line, and what the report says of it.
-use Rattle.std.specs.Prelude.{ℕ, Bool, true, false, List, Option, Some, None, codes, ◌==◌, find, option_and_then, if◌then◌else◌}
+use Rattle.std.specs.Prelude.{ℕ, Bool, false, List, Option, Some, None, codes, ◌==◌}
 use Rattle.std.specs.Option.{option_map_or}
 use Rattle.row_model.specs.declared.entry.Entry.{Entry}
 use Rattle.row_model.specs.declared.entry.Entry.TheVariants.{Rows, Changed, Locked, Acked, Plain, Refused, Crashed, Up, Moved, Checkpointed, NotDone}

@@ -13,3 +13,6 @@ mod waves;
 
 pub use counts::summary;
 pub use told::report;
+
+#[cfg(test)]
+mod tests;

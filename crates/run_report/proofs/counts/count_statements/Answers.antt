@@ -1,8 +1,6 @@
-use Rattle.std.proofs.Common.{◌≡◌, ℕ, ◌||◌, false, nat_eq, length, take, take_all, Option, None, Some, arith, sym, ap, ◌∙◌}
+use Rattle.std.proofs.Common.{◌≡◌, ◌||◌, nat_eq, take, take_all, None, Some, arith, sym, ap, ◌∙◌}
 use Rattle.std.specs.Cmp.{nat_eq_equiv}
-use Rattle.std.specs.HashSet.{contains}
 use Rattle.std.specs.List.{filter_map, list_any}
-use Rattle.std.specs.Option.{option_map_or}
 use Rattle.std.proofs.lemmas.Map.Made.{length-from_keys}
 use Rattle.run_report.specs.Summaries.{answered_statement}
 use Rattle.run_report.proofs.Counting.{seen-more, put-either, or_none}

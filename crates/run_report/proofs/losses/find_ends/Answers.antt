@@ -1,8 +1,8 @@
-use Rattle.std.proofs.Common.{◌≡◌, ℕ, ◌+◌, ◌-◌, ◌<◌, min, Bool, true, false, not, List, ◌∷◌, length, take, reverse, get_or, nat_eq, arith, rules, take_all, refl, sym, ap, ◌∙◌}
+use Rattle.std.proofs.Common.{◌≡◌, ℕ, ◌<◌, Bool, false, take, reverse, get_or, nat_eq, arith, rules, take_all, refl, sym, ap, ◌∙◌}
 use Rattle.std.specs.HashMap.{get}
 use Rattle.rac_nums.specs.declared.names.InstNo.{InstNo}
-use Rattle.run_report.specs.Ends.{current_wave, ended_in, is_done, is_up}
-use Rattle.run_report.specs.Found.{AreSettled, is_settled, kept}
+use Rattle.run_report.specs.Ends.{current_wave, ended_in, is_done}
+use Rattle.run_report.specs.Found.{is_settled, kept}
 use Rattle.run_report.proofs.Current.{current-is, current_wave-cong}
 use Rattle.run_report.proofs.EndSteps.{ended_in-end, ended_in-other, is_down-more, or_stays}
 use Rattle.run_report.proofs.Finds.{past-more}

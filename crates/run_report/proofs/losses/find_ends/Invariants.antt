@@ -1,4 +1,4 @@
-use Rattle.std.proofs.Common.{◌≡◌, ◌<◌, ℕ, Bool, false, not, nat_eq, length, take, reverse}
+use Rattle.std.proofs.Common.{◌≡◌, ◌<◌, ℕ, Bool, false, not, nat_eq, take, reverse}
 use Rattle.std.specs.HashMap.{get}
 use Rattle.std.specs.List.{slice_index_or}
 use Rattle.rac_nums.specs.declared.names.InstNo.{InstNo}

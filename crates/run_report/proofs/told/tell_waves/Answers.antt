@@ -1,4 +1,4 @@
-use Rattle.std.proofs.Common.{◌≡◌, ℕ, ◌++◌, List, string_bytes, flat_map, take, length, arith, take_all, sym, ap, reverse, ◌∙◌}
+use Rattle.std.proofs.Common.{◌≡◌, ℕ, ◌++◌, List, string_bytes, flat_map, take, arith, take_all, sym, ap, reverse, ◌∙◌}
 use Rattle.std.specs.List.{enumerate_from}
 use Rattle.script_text.specs.declared.item.Item.{Item}
 use Rattle.run_report.specs.Ends.{ended_in}

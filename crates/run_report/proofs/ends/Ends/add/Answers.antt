@@ -1,6 +1,6 @@
 use Rattle.std.proofs.Common.{◌≡◌, Bool, true, false, cond, not, ◌&&◌, ◌||◌, refl, ◌∙◌}
 use Rattle.std.specs.Prelude.{◌==◌}
-use Rattle.run_report.specs.Found.{has_pair, kept}
+use Rattle.run_report.specs.Found.{kept}
 use Rattle.run_report.proofs.ends.Ends.add.Goals as goal
 
 -- a pair that is put among others, in the words of the clause
