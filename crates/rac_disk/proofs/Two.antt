@@ -1,7 +1,7 @@
 -- What two appends do, one after the other.
-use Rattle.std.proofs.Common.{◌≡◌, ◌≤◌, ◌<◌, ◌+◌, ℕ, List, ◌++◌, length, take, Option, None, Some, Result, Ok, Err, ap, sym, ◌∙◌, append_assoc, arith, length-append, get_or, set, set-set, get_or-set_same}
+use Rattle.std.proofs.Common.{◌≡◌, ◌<◌, ◌+◌, ℕ, List, ◌++◌, length, take, Option, None, Some, Result, Ok, Err, ap, sym, ◌∙◌, append_assoc, arith, length-append, set, set-set, get_or-set_same}
 use Rattle.std.proofs.Math.Seq.{take-append-add}
-use Rattle.rac_disk.specs.Disk.{DiskState, LogState, IsDisk, no_log, log_at, room_at, with_log}
+use Rattle.rac_disk.specs.Disk.{DiskState, LogState, no_log, log_at, room_at, with_log}
 use Rattle.rac_disk.specs.Calls.{WhereTold, Appends}
 
 -- an append behind an append is one append of both

@@ -1,5 +1,5 @@
 -- A shared disk in memory, as contracts see it.
-use Rattle.std.specs.Prelude.{ℕ, zero, suc, ◌+◌, ◌-◌, ◌==◌, ◌&&◌, nat_lt, nat_le, Bool, true, false, if◌then◌else◌, List, [], ◌++◌, length, take, Option, None, Some, is_some, find, slice_index, slice_set, replicate}
+use Rattle.std.specs.Prelude.{ℕ, zero, suc, ◌-◌, ◌==◌, ◌&&◌, nat_lt, nat_le, Bool, false, if◌then◌else◌, List, [], ◌++◌, length, take, Option, None, Some, is_some, find, slice_index, slice_set, replicate}
 use Rattle.std.specs.Option.{option_map}
 use Rattle.rac_io.specs.Memory.{count_after}
 use Rattle.rac_disk.specs.declared.plan.CallKind.{CallKind}

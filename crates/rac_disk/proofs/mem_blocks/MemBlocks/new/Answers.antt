@@ -1,5 +1,4 @@
-use Rattle.std.proofs.Common.{ap, sym, ◌∙◌, take, replicate, arith}
-use Rattle.std.proofs.lemmas.Grind.{common_steps}
+use Rattle.std.proofs.Common.{arith}
 use Rattle.std.proofs.lemmas.List.{take-replicate, replicate-append-replicate}
 use Rattle.rac_disk.specs.Memory.{zero_block}
 use Rattle.rac_disk.proofs.mem_blocks.MemBlocks.new.Goals as goal

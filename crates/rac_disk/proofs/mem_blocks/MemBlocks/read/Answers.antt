@@ -1,4 +1,4 @@
-use Rattle.std.proofs.Common.{◌≡◌, ◌<◌, [], arith, get_or, take, ◌∙◌, sym}
+use Rattle.std.proofs.Common.{◌≡◌, [], arith, get_or, take, ◌∙◌, sym}
 use Rattle.std.proofs.lemmas.List.{get_or-take}
 use Rattle.std.proofs.lemmas.Grind.{common_steps}
 use Rattle.rac_disk.proofs.mem_blocks.MemBlocks.read.Goals as goal
