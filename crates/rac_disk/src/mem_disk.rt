@@ -38,7 +38,7 @@ impl MemDisk {
 
     /// A disk of so many blocks, of zeros, with empty logs that have room for `log_bytes` bytes each and
     /// control entries of zeros. `plan` names the calls that fail: of several entries for one call the first
-    /// counts. It takes all its memory here, and no call of it takes any.
+    /// counts. It takes all its memory here, and no call of it takes any. `NoMemory` where that is short.
     pub fn new(
         alloc: Global,
         blocks: u16,

@@ -2,7 +2,7 @@ ghost use Rattle.std.specs.Prelude.{◌≡◌, ◌<◌, replicate};
 
 use std::marker::Model;
 
-/// A kind of call of a disk.
+/// A kind of call of a disk. `Cut` is a `cut_log`, and the others bear the names of their calls.
 #[derive(Clone, Copy, Debug, PartialEq, Eq)]
 pub enum CallKind {
     ReadBlock,
