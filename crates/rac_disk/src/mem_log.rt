@@ -1,0 +1,81 @@
+ghost use Rattle.std.specs.Prelude.{◌≡◌, ◌-◌, ◌+◌, ◌≤◌, ◌<◌, ◌++◌, [], length, take, drop, min, IfOk, nat_le};
+
+use rac_nums::NoMemory;
+use std::alloc::Global;
+use std::marker::Model;
+
+/// A log in memory, which has taken the memory for all that it has room for.
+#[derive(Drop)]
+pub struct MemLog {
+    bytes: Vec<u8>,
+    room: usize,
+}
+
+impl Model for MemLog {
+    ghost use Rattle.std.specs.Prelude.{◌≤◌, vec_len, vec_capacity};
+    ghost use Rattle.rac_disk.specs.Disk.{LogState};
+
+    ghost Value = { LogState };
+
+    ghost view = { λ it. record { bytes = it.bytes.items; room = it.room } };
+
+    ghost invariant = { λ it. (vec_len it.bytes ≤ it.room) × (it.room ≤ vec_capacity it.bytes) };
+}
+
+impl MemLog {
+    /// An empty log with room for so many bytes.
+    pub fn new(alloc: Global, room: usize) -> Result<MemLog, NoMemory>
+        ensures { IfOk result (λ it. it ≡ record { bytes = []; room = room }) }
+    {
+        Ok(MemLog {
+            bytes: Vec::with_capacity(alloc, room)?,
+            room,
+        })
+    }
+
+    /// How many bytes it has.
+    pub fn len(&self) -> usize
+        ensures { result ≡ length self.now.bytes }
+    {
+        self.bytes.len()
+    }
+
+    /// Appends as many first bytes of a piece as there is room for; whether these are all.
+    pub fn append(&mut self, piece: &[u8]) -> bool
+        ensures whole { result ≡ nat_le (length piece.now) (self.old.room - length self.old.bytes) }
+        ensures after { self.new ≡ record self.old { bytes = self.old.bytes ++ take (self.old.room - length self.old.bytes) piece.now } }
+        ensures within { length self.new.bytes ≤ self.new.room }
+    {
+        let free = self.room - self.bytes.len();
+        let count = free.min(piece.len());
+        self.bytes.extend_from_slice(&piece[..count]).unwrap();
+        piece.len() <= free
+    }
+
+    /// Keeps the first bytes, so many, where there are more.
+    pub fn cut(&mut self, len: u64)
+        ensures after { self.new ≡ record self.old { bytes = take len self.old.bytes } }
+        ensures within { length self.new.bytes ≤ self.new.room }
+    {
+        self.bytes.truncate(len as usize);
+    }
+
+    /// Copies the bytes from a place on to the front of `out`, as many as fit; how many these are.
+    pub fn read(&self, at: u64, out: &mut [u8]) -> usize
+        ensures count { result ≡ min (length self.now.bytes - at) (length out.old) }
+        ensures copied { out.new ≡ take result (drop at self.now.bytes) ++ drop result out.old }
+    {
+        let start = self.bytes.len().min(at as usize);
+        copy_front(&self.bytes[start..], out)
+    }
+}
+
+// Copies as many first bytes of `bytes` to the front of `out` as fit; how many these are.
+fn copy_front(bytes: &[u8], out: &mut [u8]) -> usize
+    ensures count { result ≡ min (length bytes.now) (length out.old) }
+    ensures copied { out.new ≡ take result bytes.now ++ drop result out.old }
+{
+    let count = bytes.len().min(out.len());
+    out[..count].copy_from_slice(&bytes[..count]);
+    count
+}
