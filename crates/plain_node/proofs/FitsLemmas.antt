@@ -1,5 +1,5 @@
 -- The node's numbers stay below the number of the line that it has come to.
-use Rattle.std.proofs.Common.{◌≡◌, ◌∙◌, ◌≢◌, ℕ, ◌+◌, ◌<◌, ◌≤◌, List, [], ◌∷◌, ◌++◌, Option, Some, None, length, set, slice_set, slice_index_or, MatchOption, IfSome, refl, ap, sym, subst, arith, inl, inr, ◌⊎◌, true, false, ◌==◌}
+use Rattle.std.proofs.Common.{◌≡◌, ◌∙◌, ◌≢◌, ℕ, ◌+◌, ◌<◌, ◌≤◌, List, Option, Some, None, length, slice_set, slice_index_or, MatchOption, refl, ap, arith, inl, inr, ◌⊎◌, true, false, ◌==◌}
 use Rattle.std.proofs.lemmas.List.{get_or-set_same, get_or-set_other, length-set}
 use Rattle.std.proofs.lemmas.Bool.Decides.{eqb_tells}
 use Rattle.rac_nums.specs.declared.names.Xid.{Xid}
@@ -10,7 +10,7 @@ use Rattle.rac_nums.specs.declared.value.Value.{Value}
 use Rattle.plain_node.specs.declared.node.Node.{Node}
 use Rattle.plain_node.specs.declared.slots.SlotUse.{SlotUse}
 use Rattle.plain_node.specs.Slots.{wrap_at, never, next_xid, IsLeastUsed}
-use Rattle.plain_node.specs.Steps.{value_in, opened, started, got, begun, IsOwn, changed, Puts, ended_by, commit_of, committed}
+use Rattle.plain_node.specs.Steps.{value_in, opened, started, got, begun, changed, Puts, commit_of, committed}
 use Rattle.plain_node.specs.Runs.{Fits}
 use Rattle.plain_node.proofs.SoundLemmas.{wrap_at-ended}
 

@@ -1,20 +1,15 @@
 -- Lists of lines: the next one, and what each asks.
-use Rattle.std.specs.Prelude.{if◌then◌else◌}
-use Rattle.std.proofs.Common.{◌≡◌, ◌∙◌, ◌≢◌, ℕ, zero, suc, ◌+◌, ◌<◌, List, [], ◌∷◌, ◌++◌, Option, Some, None, drop, length, get_or, refl, ap, sym, arith, add-one, Bool, true, false, ◌==◌, cond, ◌||◌, ◌≤◌, ◌^◌, ◌*◌, nat_lt, subst, append-nil}
+use Rattle.std.proofs.Common.{◌≡◌, ◌∙◌, ℕ, suc, ◌+◌, ◌<◌, List, [], ◌∷◌, ◌++◌, Some, drop, length, get_or, refl, ap, sym, arith, add-one, Bool, true, false, ◌==◌, cond, ◌||◌, ◌≤◌, ◌^◌, ◌*◌, nat_lt, subst, append-nil}
 use Rattle.std.proofs.Math.Seq.{drop-cons}
 use Rattle.std.proofs.lemmas.List.{append_assoc}
 use Rattle.std.proofs.lemmas.Bool.{eq-eqb, ne_eqb, le-ltb, lt-ltb}
-use Rattle.row_model.specs.Good.{Range}
 use Rattle.script_text.specs.declared.item.Item.{Item}
-use Rattle.plain_node.specs.declared.node.Node.{Node}
 use Rattle.script_text.specs.declared.item.Item.TheVariants.{Session, CrashAfter, CrashMark, Start, Remaster, Checkpoint, Hold}
 use Rattle.script_text.specs.declared.item.Item.TheVariants.{Stmt as Statement}
 use Rattle.script_text.specs.ScriptParts.{ScriptParts}
-use Rattle.script_text.specs.Reading.{item_in, item_at, joined, items_of}
-use Rattle.script_text.specs.Asked.{range_asked}
+use Rattle.script_text.specs.Reading.{item_in, joined, items_of}
 use Rattle.script_text.specs.WellFormed.{RiseWithin, IsItemWithin, AreItemsWithin, IsOpened, opened_after, AreOpened, IsRead, AreRead, IsWellFormed}
-use Rattle.std.specs.Option.{option_and_then}
-use Rattle.plain_node.specs.Lined.{last_line, NamesBelow, Opens, IsNext, AreNext}
+use Rattle.plain_node.specs.Lined.{last_line, NamesBelow, Opens, AreNext}
 use Rattle.script_text.specs.Lines.{opening, opening_in, earlier, AreAnswered}
 use Rattle.row_model.specs.Past.{Past}
 use Rattle.std.specs.List.{list_any}
@@ -107,7 +102,7 @@ earlier-done : (waves : List (List (ℕ × Item))) (done : List (ℕ × Item)) (
 earlier-done [] done line rest same past h = tt
 earlier-done (wave ∷ waves) done line rest same past h =
     earlier-by (list_any (λ (w : ℕ × Item). w.0 == line.0) wave) wave waves done line rest past refl same h
-      (λ after behind answered. earlier-done waves after line rest behind past answered)
+    (λ after behind answered. earlier-done waves after line rest behind past answered)
 
 names-below : (sessions instances rows : ℕ) (item : Item) → IsItemWithin sessions instances rows item → NamesBelow sessions item
 names-below sessions instances rows (Session session inst) within = within.0
@@ -164,13 +159,14 @@ opens-at parts done n (Hold reader until) rest same is = tt
 -- the lines of a well-formed script come one after another
 pub all-next : (parts : ScriptParts) (done rest : List (ℕ × Item)) → IsWellFormed parts → items_of parts ≡ done ++ rest → AreNext parts done rest
 all-next parts done [] well same = tt
-all-next parts done (line ∷ rest) well same =
-    (record {
-      asks = rw same (item-found 0 parts.lines done line rest (rw same at well.lines_rise));
-      opens = opens-at parts done line.0 line.1 rest same (rw same at well.items_opened);
-      names = names-below (length parts.names) parts.settings.instances (8 * parts.settings.blocks) line.1
+all-next parts done (line ∷ rest) well same = (
+  record {
+    asks = rw same (item-found 0 parts.lines done line rest (rw same at well.lines_rise));
+    opens = opens-at parts done line.0 line.1 rest same (rw same at well.items_opened);
+    names = names-below (length parts.names) parts.settings.instances (8 * parts.settings.blocks) line.1
         (within-at (length parts.names) parts.settings.instances (8 * parts.settings.blocks) done line rest (rw same at well.items_within));
-      earlier_done = earlier-done parts.waves done line rest same;
-      later = (rise-above 0 parts.lines done line rest (rw same at well.lines_rise)).1;
-    },
-    all-next parts (done ++ line ∷ []) rest well (same ∙ sym (append_assoc done (line ∷ []) rest)))
+    earlier_done = earlier-done parts.waves done line rest same;
+    later = (rise-above 0 parts.lines done line rest (rw same at well.lines_rise)).1;
+  },
+  all-next parts (done ++ line ∷ []) rest well (same ∙ sym (append_assoc done (line ∷ []) rest)),
+)

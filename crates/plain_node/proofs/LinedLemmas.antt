@@ -1,7 +1,6 @@
 -- Each entry that the node tells is what its line asks.
-use Rattle.std.proofs.Common.{◌≡◌, ◌∙◌, ℕ, ◌<◌, ◌≤◌, List, [], ◌∷◌, ◌++◌, Bool, true, false, cond, ◌||◌, ◌==◌, Option, Some, None, IsSome, IsSomeAnd, IfSome, MatchOption, refl, ap, sym, subst, arith, length, is_some}
-use Rattle.std.specs.Option.{option_and_then, option_map_or, option_map}
-use Rattle.std.specs.List.{list_any}
+use Rattle.std.proofs.Common.{◌≡◌, ◌∙◌, ℕ, ◌<◌, ◌≤◌, List, [], ◌∷◌, ◌++◌, Bool, true, false, cond, ◌||◌, Option, Some, None, IsSome, IfSome, MatchOption, refl, ap, sym, subst, arith, is_some}
+use Rattle.std.specs.Option.{option_and_then, option_map}
 use Rattle.std.proofs.lemmas.Bool.{eq-eqb}
 use Rattle.rac_nums.specs.declared.names.Xid.{Xid}
 use Rattle.rac_nums.specs.declared.names.RowNo.{RowNo}
@@ -10,25 +9,23 @@ use Rattle.rac_nums.specs.declared.names.InstNo.{InstNo}
 use Rattle.rac_nums.specs.declared.value.Value.{Value}
 use Rattle.row_model.specs.declared.entry.Entry.{Entry}
 use Rattle.row_model.specs.declared.entry.Entry.TheVariants.{Opened, Started, Rows, Changed, Marked, Committed, Acked, Plain}
-use Rattle.row_model.specs.Past.{Past, Each, Start, start_of, same_xid, home_of}
+use Rattle.row_model.specs.Past.{Past, Start, start_of, same_xid, home_of}
 use Rattle.row_model.specs.Standing.{is_open}
 use Rattle.row_model.specs.Sees.{own}
-use Rattle.row_model.specs.Stood.{stood, is_commit}
 use Rattle.row_model.specs.Good.{Range}
-use Rattle.row_model.proofs.XidLemmas.{same_xid-refl, same_xid-true}
+use Rattle.row_model.proofs.XidLemmas.{same_xid-true}
 use Rattle.script_text.specs.declared.item.Item.{Item}
 use Rattle.script_text.specs.declared.item.Item.TheVariants.{Session, CrashAfter, CrashMark, Start as StartItem, Remaster, Checkpoint, Hold}
 use Rattle.script_text.specs.declared.item.Item.TheVariants.{Stmt as Statement}
 use Rattle.script_text.specs.declared.item.Stmt.{Stmt}
 use Rattle.script_text.specs.declared.item.Stmt.TheVariants.{Get, Put, Commit}
 use Rattle.script_text.specs.ScriptParts.{ScriptParts}
-use Rattle.script_text.specs.Reading.{items_of, item_at}
-use Rattle.script_text.specs.Lines.{answered, answers_stmt, stmt_in, stmt_at, last_answer, opening, earlier, IsAnswered, AreAnswered}
-use Rattle.script_text.specs.GoodLines.{LineIsProper, is_over, IsNew, IsOwnOrNew, own_at_start}
+use Rattle.script_text.specs.Lines.{answered, answers_stmt, stmt_in, stmt_at, last_answer, IsAnswered, AreAnswered}
+use Rattle.script_text.specs.GoodLines.{is_over, IsNew, IsOwnOrNew}
 use Rattle.plain_node.specs.declared.slots.SlotUse.{SlotUse}
 use Rattle.plain_node.specs.Slots.{wrap_at}
 use Rattle.plain_node.specs.Sound.{Parts, Sound, Proper}
-use Rattle.plain_node.specs.Lined.{Lined, IsNext, Opens}
+use Rattle.plain_node.specs.Lined.{Lined, IsNext}
 
 -- what was answered stays answered
 IsAnswered-more : (n : ℕ) (item : Item) (e : Entry) (past : Past) → IsAnswered n item past → IsAnswered n item (e ∷ past)
@@ -136,22 +133,23 @@ module _ (parts : ScriptParts) (done : List (ℕ × Item)) (last : ℕ) where
       record {
         lines = ((rw (stmt-asked n 0 Commit next) ((let le = lined.until in let l = next.later in omega arith), rw (eq-eqb n n refl) refl, rw (eq-eqb n n refl) own_is), tt), ((tt, tt), ((tt, tt), lined.lines)));
         answered = AreAnswered-push done (n, Statement 0 Commit) all
-          (AreAnswered-more done (Acked n x c) (Committed x c i ∷ Marked n x c ∷ Started n 0 s ∷ past)
+            (AreAnswered-more done (Acked n x c) (Committed x c i ∷ Marked n x c ∷ Started n 0 s ∷ past)
             (AreAnswered-more done (Committed x c i) (Marked n x c ∷ Started n 0 s ∷ past)
-              (AreAnswered-more done (Marked n x c) (Started n 0 s ∷ past) lined.answered)))
-          (line-answered (Committed x c i ∷ Marked n x c ∷ Started n 0 s ∷ past) (Acked n x c) n Commit refl);
+            (AreAnswered-more done (Marked n x c) (Started n 0 s ∷ past) lined.answered)))
+            (line-answered (Committed x c i ∷ Marked n x c ∷ Started n 0 s ∷ past) (Acked n x c) n Commit refl);
         until = rw (last-answered (Committed x c i ∷ Marked n x c ∷ Started n 0 s ∷ past) (Acked n x c) n Commit refl (stmt-asked n 0 Commit next)) (omega arith);
         unended = λ y later. by_name y (same_xid y x) refl later;
       }
     where
       all : Past
       all = Acked n x c ∷ Committed x c i ∷ Marked n x c ∷ Started n 0 s ∷ past
+
       by_name : (y : Xid) (b : Bool) → same_xid y x ≡ b → wrap_at now y.slot < y.wrap → cond b true (is_over y past) ≡ false
       by_name y false e later = lined.unended y (let w = wraps y.slot in omega arith)
       by_name y true e later = absurd (
-        let same = same_xid-true y x e in
-        let later2 : wrap_at now x.slot < x.wrap = subst (λ (v : Xid). wrap_at now v.slot < v.wrap) same later in
-        let w = wraps x.slot in omega arith)
+          let same = same_xid-true y x e in
+          let later2 : wrap_at now x.slot < x.wrap = subst (λ (v : Xid). wrap_at now v.slot < v.wrap) same later in
+          let w = wraps x.slot in omega arith)
 
 -- the transaction of a put is the own one or new
 pub own-or-new : (asked : ℕ → Option Range) (past : Past) (node : Parts) (x : Xid) → Sound asked 0 past node → Proper 0 past node
@@ -161,9 +159,11 @@ own-or-new asked past node x sound proper h = rw sound.own_is (by_own node.own p
     by_home : (o : Option InstNo) → is_some o ≡ true → home_of 0 past ≡ option_map (λ i. i.0) o → IfSome o (λ i. i.0 ≡ 0) → home_of 0 past ≡ Some 0
     by_home None o h2 at_home = (cc)
     by_home (Some i) o h2 at_home = rw (h2, at_home) refl
+
     shut : ((y : Xid) → is_open y past ≡ true → ◌≡◌ {A = Option Xid} None (Some y)) → (b : Bool) → is_open x past ≡ b → b ≡ false
     shut alone false e = refl
     shut alone true e = let clash = alone x e in (cc)
+
     by_own : (o : Option Xid) → ((y : Xid) → is_open y past ≡ true → o ≡ Some y)
         → MatchOption o ((wrap_at node.slots x.slot < x.wrap) × (x.seg.0 ≡ 0) × (is_some node.home ≡ true) × (is_over x past ≡ false)) (λ y. x ≡ y)
         → MatchOption o (IsNew 0 past x) (λ y. x ≡ y)

@@ -1,11 +1,10 @@
 -- Each statement that the node answers is what its line asks.
-use Rattle.std.proofs.Common.{◌≡◌, ◌∙◌, ℕ, ◌+◌, ◌<◌, ◌≤◌, List, [], ◌∷◌, ◌++◌, Bool, true, false, Option, Some, None, MatchOption, refl, ap, sym, subst, arith, length, is_some, reverse, slice_set}
+use Rattle.std.proofs.Common.{◌≡◌, ◌∙◌, ℕ, ◌+◌, ◌<◌, ◌≤◌, List, [], ◌∷◌, ◌++◌, true, false, Option, Some, None, MatchOption, refl, arith, length, is_some, reverse}
 use Rattle.rac_nums.specs.declared.names.Xid.{Xid}
 use Rattle.rac_nums.specs.declared.names.RowNo.{RowNo}
 use Rattle.rac_nums.specs.declared.names.Scn.{Scn}
 use Rattle.rac_nums.specs.declared.names.InstNo.{InstNo}
 use Rattle.rac_nums.specs.declared.value.Value.{Value}
-use Rattle.row_model.specs.declared.entry.Entry.{Entry}
 use Rattle.row_model.specs.declared.entry.Entry.TheVariants.{Opened, Started, Rows, Changed, Marked, Committed, Acked, Plain}
 use Rattle.row_model.specs.Good.{Range}
 use Rattle.script_text.specs.declared.item.Item.{Item}
@@ -17,7 +16,7 @@ use Rattle.script_text.specs.ScriptParts.{ScriptParts}
 use Rattle.script_text.specs.GoodLines.{is_over}
 use Rattle.plain_node.specs.declared.node.Node.{Node}
 use Rattle.plain_node.specs.Slots.{wrap_at, next_xid, IsLeastUsed}
-use Rattle.plain_node.specs.Steps.{told, opened, started, got, value_in, begun, changed, Puts, ended_by, commit_of, committed}
+use Rattle.plain_node.specs.Steps.{opened, started, got, value_in, begun, changed, Puts, ended_by, commit_of, committed}
 use Rattle.plain_node.specs.Sound.{parts_of}
 use Rattle.plain_node.specs.Runs.{IsSound, IsProper}
 use Rattle.plain_node.specs.Lined.{Lined, IsLined, IsNext}
@@ -36,7 +35,7 @@ module _ (asked : ℕ → Option Range) (parts : ScriptParts) (done : List (ℕ 
       → IsLined parts (done ++ (n, Statement 0 (Get row)) ∷ []) n (got node n 0 row)
   IsLined-got node n row next lined =
       rw (reverse_push (started node n 0).journal (Rows n _))
-        (Lined-rows parts done last (reverse (started node n 0).journal) node.slots n node.known.0 row _ next (start-told asked node n) (IsLined-started node n (Get row) next lined))
+      (Lined-rows parts done last (reverse (started node n 0).journal) node.slots n node.known.0 row _ next (start-told asked node n) (IsLined-started node n (Get row) next lined))
 
   lined-change : (old mid : Node) (n : ℕ) (x : Xid) (row : RowNo) (value : Value) → IsNext parts done last (n, Statement 0 (Put row value))
       → is_some old.home ≡ true → IsSound asked old → IsProper old → IsLined parts done last old
@@ -45,12 +44,13 @@ module _ (asked : ℕ → Option Range) (parts : ScriptParts) (done : List (ℕ 
       → IsLined parts (done ++ (n, Statement 0 (Put row value)) ∷ []) n (changed mid n x row (value_in old old.known.0 row.0) value)
   lined-change old mid n x row value next home sound proper lined journal wraps mine =
       rw (journal, reverse_push (started old n 0).journal (Changed n x row (value_in old old.known.0 row.0) value))
-        (Lined-changed parts done last (reverse (started old n 0).journal) old.slots mid.slots n old.known.0 x row _ value next (start-told asked old n)
-          (own-or-new asked (reverse (started old n 0).journal) (parts_of (started old n 0)) x (IsSound-started asked old n sound) (IsProper-started asked old n home sound proper) (by_own old.own mine))
-          wraps lined_started)
+      (Lined-changed parts done last (reverse (started old n 0).journal) old.slots mid.slots n old.known.0 x row _ value next (start-told asked old n)
+      (own-or-new asked (reverse (started old n 0).journal) (parts_of (started old n 0)) x (IsSound-started asked old n sound) (IsProper-started asked old n home sound proper) (by_own old.own mine))
+      wraps lined_started)
     where
       lined_started : IsLined parts done last (started old n 0)
       lined_started = IsLined-started old n (Put row value) next lined
+
       by_own : (o : Option Xid) → MatchOption o ((wrap_at old.slots x.slot < x.wrap) × (x.seg.0 ≡ 0)) (λ y. x ≡ y)
           → MatchOption o ((wrap_at old.slots x.slot < x.wrap) × (x.seg.0 ≡ 0) × (is_some old.home ≡ true) × (is_over x (reverse (started old n 0).journal) ≡ false)) (λ y. x ≡ y)
       by_own None h = (h.0, h.1, home, lined_started.unended x h.0)
@@ -62,7 +62,7 @@ module _ (asked : ℕ → Option Range) (parts : ScriptParts) (done : List (ℕ 
       → IsLined parts (done ++ (n, Statement 0 (Put row value)) ∷ []) n (changed mid n x row (value_in old old.known.0 row.0) value)
   put-lined old mid n x row value None is next h home sound proper lined =
       rw (h.2, h.3) (lined-change old (begun (started old n 0) h.0) n (next_xid old.slots h.0) row value next home sound proper lined refl
-        (λ j. wrap_at-begun asked (started old n 0) h.0 j h.1.within) (rw is (omega arith, refl)))
+      (λ j. wrap_at-begun asked (started old n 0) h.0 j h.1.within) (rw is (omega arith, refl)))
   put-lined old mid n x row value (Some y) is next h home sound proper lined =
       rw (h.0, h.1) (lined-change old (started old n 0) n y row value next home sound proper lined refl (λ k. omega arith) (rw is refl))
 
@@ -78,16 +78,19 @@ module _ (asked : ℕ → Option Range) (parts : ScriptParts) (done : List (ℕ 
     where
       lined_started : Lined parts done last (Started n 0 old.known ∷ reverse old.journal) old.slots
       lined_started = Lined-started parts done last (reverse old.journal) old.slots n Commit old.known next lined
+
       by_own : (o : Option Xid) → old.own ≡ o → IsLined parts (done ++ (n, Statement 0 Commit) ∷ []) n (commit_of (started old n 0) n o)
       by_own None is =
           rw (reverse_push (old.journal ++ Started n 0 old.known ∷ []) (Plain n), reverse_push old.journal (Started n 0 old.known))
-            (Lined-plain parts done last (reverse old.journal) old.slots n old.known next (sound.own_is ∙ is) lined_started)
+          (Lined-plain parts done last (reverse old.journal) old.slots n old.known next (sound.own_is ∙ is) lined_started)
       by_own (Some x) is =
           let used : (x.slot < 8) × (x.wrap ≤ wrap_at old.slots x.slot) = rw is at sound.own_used in
           let c : Scn = record { 0 = old.scn.0 + 1 } in
-          rw (reverse_push (((old.journal ++ Started n 0 old.known ∷ []) ++ Marked n x c ∷ []) ++ Committed x c (record { 0 = 0 }) ∷ []) (Acked n x c),
-              reverse_push ((old.journal ++ Started n 0 old.known ∷ []) ++ Marked n x c ∷ []) (Committed x c (record { 0 = 0 })),
-              reverse_push (old.journal ++ Started n 0 old.known ∷ []) (Marked n x c),
-              reverse_push old.journal (Started n 0 old.known))
-            (Lined-committed parts done last (reverse old.journal) old.slots (ended_by (started old n 0) n x).slots n old.known x c (record { 0 = 0 }) next (sound.own_is ∙ is) used.1
-              (λ k. wrap_at-ended asked 0 old.slots x.slot k c (let small = used.0 in omega arith)) lined_started)
+          rw (
+            reverse_push (((old.journal ++ Started n 0 old.known ∷ []) ++ Marked n x c ∷ []) ++ Committed x c (record { 0 = 0 }) ∷ []) (Acked n x c),
+            reverse_push ((old.journal ++ Started n 0 old.known ∷ []) ++ Marked n x c ∷ []) (Committed x c (record { 0 = 0 })),
+            reverse_push (old.journal ++ Started n 0 old.known ∷ []) (Marked n x c),
+            reverse_push old.journal (Started n 0 old.known),
+          )
+          (Lined-committed parts done last (reverse old.journal) old.slots (ended_by (started old n 0) n x).slots n old.known x c (record { 0 = 0 }) next (sound.own_is ∙ is) used.1
+          (λ k. wrap_at-ended asked 0 old.slots x.slot k c (let small = used.0 in omega arith)) lined_started)

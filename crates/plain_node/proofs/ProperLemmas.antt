@@ -1,6 +1,6 @@
 -- Each entry that the node tells keeps commits, starts and locks in order.
-use Rattle.std.proofs.Common.{◌≡◌, ◌∙◌, ◌≢◌, ℕ, ◌+◌, ◌-◌, ◌<◌, ◌≤◌, List, [], ◌∷◌, ◌++◌, Bool, true, false, cond, max, ◌&&◌, ◌||◌, ◌==◌, nat_le, Option, Some, None, unwrap_or, map, reverse, length, IsSomeAnd, IfSome, refl, ap, sym, subst, arith, is_some}
-use Rattle.std.specs.Option.{option_and_then, option_map_or, option_map}
+use Rattle.std.proofs.Common.{◌≡◌, ◌∙◌, ℕ, ◌+◌, ◌<◌, ◌≤◌, List, [], ◌∷◌, ◌++◌, Bool, true, false, cond, max, ◌&&◌, ◌||◌, ◌==◌, Option, Some, None, unwrap_or, IsSomeAnd, IfSome, refl, ap, sym, subst, arith, is_some}
+use Rattle.std.specs.Option.{option_map_or, option_map}
 use Rattle.std.specs.List.{list_any}
 use Rattle.std.proofs.lemmas.Bool.{eq-eqb, ne_eqb, le-leb}
 use Rattle.rac_nums.specs.declared.names.Xid.{Xid}
@@ -11,21 +11,17 @@ use Rattle.rac_nums.specs.declared.value.Value.{Value}
 use Rattle.rac_nums.specs.declared.value.Value.TheVariants.{Absent}
 use Rattle.row_model.specs.declared.entry.Entry.{Entry}
 use Rattle.row_model.specs.declared.entry.Entry.TheVariants.{Opened, Started, Rows, Changed, Marked, Committed, Acked, Plain}
-use Rattle.row_model.specs.Past.{Past, Each, Start, start_of, same_xid, home_of, is_up}
-use Rattle.row_model.specs.Standing.{Change, Deed, changes_of, standing, is_open, holds, row_of}
-use Rattle.row_model.specs.History.{Commit, history_of_past, entered, changes_up_to, value_by}
-use Rattle.row_model.specs.Sees.{own, own_changes}
-use Rattle.row_model.specs.Stood.{stood, started_after, is_mark, is_mark_by, is_commit, is_commit_at, is_commit_by, acked_up_to, started_up_to, came_up}
-use Rattle.row_model.specs.Good.{Range, CommitIsProper, AckIsProper, StartIsProper, RowIsFree, changes_in, Replays}
+use Rattle.row_model.specs.Past.{Past, start_of, same_xid, home_of, is_up}
+use Rattle.row_model.specs.Standing.{Change, changes_of, standing, is_open, row_of}
+use Rattle.row_model.specs.History.{Commit, history_of_past, changes_up_to, value_by}
+use Rattle.row_model.specs.Sees.{own_changes}
+use Rattle.row_model.specs.Stood.{stood, started_after, is_mark, is_mark_by, is_commit, is_commit_at, is_commit_by, started_up_to, came_up}
+use Rattle.row_model.specs.Good.{Range, changes_in, Replays}
 use Rattle.row_model.proofs.XidLemmas.{same_xid-refl, same_xid-true, both_true}
 use Rattle.row_model.proofs.HistoryLemmas.{UpTo, latest_start, latest_start_after}
-use Rattle.plain_node.specs.declared.slots.SlotUse.{SlotUse}
-use Rattle.plain_node.specs.declared.versions.Pending.{Pending}
-use Rattle.plain_node.specs.declared.versions.Version.{Version}
 use Rattle.plain_node.specs.Versions.{pending_value, ended_value}
 use Rattle.plain_node.specs.Slots.{wrap_at}
-use Rattle.plain_node.specs.Steps.{version_at}
-use Rattle.plain_node.specs.Sound.{Parts, Sound, Proper, as_pending, versions_of}
+use Rattle.plain_node.specs.Sound.{Parts, Sound, Proper}
 use Rattle.plain_node.proofs.SoundLemmas.{value-seen, own_changes-changed, history-committed, own-committed, own_changes-own}
 
 -- a session's latest start is not above the latest of all

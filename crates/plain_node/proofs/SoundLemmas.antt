@@ -1,5 +1,5 @@
 -- Each entry that the node tells keeps what its state has to do with the journal.
-use Rattle.std.proofs.Common.{◌≡◌, ◌∙◌, ◌≢◌, ℕ, ◌+◌, ◌-◌, ◌<◌, ◌≤◌, List, [], ◌∷◌, ◌++◌, Bool, true, false, cond, max, ◌&&◌, ◌==◌, nat_le, Option, Some, None, unwrap_or, map, reverse, length, slice_set, slice_index_or, IsSomeAnd, IfSome, refl, ap, sym, subst, arith}
+use Rattle.std.proofs.Common.{◌≡◌, ◌∙◌, ◌≢◌, ℕ, ◌+◌, ◌<◌, ◌≤◌, List, [], ◌∷◌, ◌++◌, Bool, true, false, cond, ◌==◌, Option, Some, None, unwrap_or, map, length, slice_set, refl, ap, sym, subst, arith}
 use Rattle.std.specs.Option.{option_and_then, option_map_or}
 use Rattle.std.proofs.lemmas.Bool.{eq-eqb}
 use Rattle.std.proofs.lemmas.Bool.Decides.{eqb_tells}
@@ -11,20 +11,19 @@ use Rattle.rac_nums.specs.declared.names.Scn.{Scn}
 use Rattle.rac_nums.specs.declared.names.InstNo.{InstNo}
 use Rattle.rac_nums.specs.declared.value.Value.{Value}
 use Rattle.rac_nums.specs.declared.value.Value.TheVariants.{Absent}
-use Rattle.row_model.specs.declared.entry.Entry.{Entry}
 use Rattle.row_model.specs.declared.entry.Entry.TheVariants.{Opened, Started, Rows, Changed, Marked, Committed, Acked, Plain}
-use Rattle.row_model.specs.Past.{Past, Each, Start, start_of, same_xid}
-use Rattle.row_model.specs.Standing.{Change, Deed, Changes, Locks, changes_of, standing, is_open}
-use Rattle.row_model.specs.History.{Commit, history_of_past, entered, changes_up_to, value_by}
-use Rattle.row_model.specs.Sees.{own, own_changes, last_of, is_of, sees}
-use Rattle.row_model.specs.Good.{Range, listed, listed_before, RowsAreSeen, FoundIsSeen}
+use Rattle.row_model.specs.Past.{Past, Each, start_of, same_xid}
+use Rattle.row_model.specs.Standing.{Change, Changes, changes_of, standing, is_open}
+use Rattle.row_model.specs.History.{Commit, history_of_past, changes_up_to, value_by}
+use Rattle.row_model.specs.Sees.{own, own_changes, last_of}
+use Rattle.row_model.specs.Good.{Range, listed_before, RowsAreSeen, FoundIsSeen}
 use Rattle.row_model.proofs.XidLemmas.{same_xid-refl, same_xid-true}
-use Rattle.row_model.proofs.HistoryLemmas.{UpTo, UpTo-le, latest_start, entered-latest, changes_up_to-latest, EachRows-same, EachFound-same}
+use Rattle.row_model.proofs.HistoryLemmas.{UpTo, UpTo-le, entered-latest, changes_up_to-latest, EachRows-same, EachFound-same}
 use Rattle.plain_node.specs.declared.slots.SlotUse.{SlotUse}
 use Rattle.plain_node.specs.declared.versions.Pending.{Pending}
 use Rattle.plain_node.specs.declared.versions.Version.{Version}
 use Rattle.plain_node.specs.Versions.{pending_value, ended_value}
-use Rattle.plain_node.specs.Slots.{wrap_at, end_at, never, next_xid}
+use Rattle.plain_node.specs.Slots.{wrap_at, never}
 use Rattle.plain_node.specs.Steps.{version_at}
 use Rattle.plain_node.specs.Sound.{Parts, Sound, as_pending, versions_of}
 use Rattle.plain_node.proofs.ValueLemmas.{value_by-own, table-ended}

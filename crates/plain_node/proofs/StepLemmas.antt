@@ -1,5 +1,5 @@
 -- Each statement that the node answers keeps its state in agreement with its journal.
-use Rattle.std.proofs.Common.{◌≡◌, ◌∙◌, ◌≢◌, ℕ, ◌+◌, ◌<◌, ◌≤◌, List, [], ◌∷◌, ◌++◌, Option, Some, None, unwrap_or, map, reverse, length, slice_set, slice_index_or, MatchOption, IfSome, refl, ap, sym, subst, arith, inl, inr, ◌⊎◌, true, false, ◌==◌, is_some}
+use Rattle.std.proofs.Common.{◌≡◌, ◌∙◌, ◌≢◌, ℕ, ◌+◌, ◌<◌, ◌≤◌, List, [], ◌∷◌, ◌++◌, Option, Some, None, map, reverse, length, slice_index_or, MatchOption, refl, ap, sym, arith, inl, inr, ◌⊎◌, true, false, ◌==◌, is_some}
 use Rattle.std.specs.Option.{option_map_or}
 use Rattle.std.proofs.lemmas.List.{reverse-append, map-append, get_or-set_same, get_or-set_other}
 use Rattle.std.proofs.lemmas.Bool.Decides.{eqb_tells}
@@ -8,8 +8,8 @@ use Rattle.rac_nums.specs.declared.names.RowNo.{RowNo}
 use Rattle.rac_nums.specs.declared.names.Scn.{Scn}
 use Rattle.rac_nums.specs.declared.value.Value.{Value}
 use Rattle.row_model.specs.declared.entry.Entry.{Entry}
-use Rattle.row_model.specs.declared.entry.Entry.TheVariants.{Opened, Started, Rows, Changed, Marked, Committed, Acked, Plain}
-use Rattle.row_model.specs.Past.{start_of, Start}
+use Rattle.row_model.specs.declared.entry.Entry.TheVariants.{Opened, Started, Changed, Marked, Committed, Acked, Plain}
+use Rattle.row_model.specs.Past.{start_of}
 use Rattle.row_model.specs.Standing.{changes_of, standing}
 use Rattle.row_model.specs.Sees.{own, own_changes}
 use Rattle.row_model.specs.Good.{Range}
@@ -18,15 +18,15 @@ use Rattle.plain_node.specs.declared.slots.SlotUse.{SlotUse}
 use Rattle.plain_node.specs.declared.versions.Pending.{Pending}
 use Rattle.plain_node.specs.declared.versions.Version.{Version}
 use Rattle.plain_node.specs.Slots.{wrap_at, never, next_xid, IsLeastUsed}
-use Rattle.plain_node.specs.Steps.{told, opened, started, got, value_in, begun, IsOwn, changed, Puts, version_at, ended_by, commit_of, committed}
-use Rattle.plain_node.specs.Sound.{Parts, Sound, Proper, parts_of, as_pending}
+use Rattle.plain_node.specs.Steps.{told, opened, started, got, value_in, begun, changed, Puts, version_at, ended_by, commit_of, committed}
+use Rattle.plain_node.specs.Sound.{Sound, Proper, parts_of, as_pending}
 use Rattle.row_model.specs.Stood.{stood, is_commit}
 use Rattle.row_model.specs.Past.{Past}
 use Rattle.row_model.specs.Standing.{is_open}
 use Rattle.rac_nums.specs.declared.names.InstNo.{InstNo}
 use Rattle.plain_node.proofs.ProperLemmas.{Proper-opened, Proper-started, Proper-rows, Proper-plain, Proper-changed, Proper-committed}
 use Rattle.plain_node.specs.Runs.{IsSound, IsProper}
-use Rattle.plain_node.proofs.SoundLemmas.{Sound-opened, Sound-plain, Sound-started, start_of-told, Sound-rows, changed as Sound-changed, Sound-committed, wrap_at-ended, own_changes-own}
+use Rattle.plain_node.proofs.SoundLemmas.{Sound-plain, Sound-started, start_of-told, Sound-rows, changed as Sound-changed, Sound-committed, wrap_at-ended, own_changes-own}
 
 pub reverse_push : {A : Type 0} (xs : List A) (x : A) → reverse (xs ++ x ∷ []) ≡ x ∷ reverse xs
 reverse_push xs x = reverse-append xs (x ∷ [])

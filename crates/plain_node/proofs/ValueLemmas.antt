@@ -1,8 +1,7 @@
 -- Looking through the node's versions gives what the session sees by the journal.
-use Rattle.std.proofs.Common.{◌≡◌, ◌∙◌, ℕ, List, [], ◌∷◌, ◌++◌, Bool, true, false, cond, ◌&&◌, ◌==◌, nat_le, Option, Some, None, unwrap_or, map, refl, ap, sym}
+use Rattle.std.proofs.Common.{◌≡◌, ℕ, List, [], ◌∷◌, ◌++◌, Bool, true, false, cond, ◌&&◌, ◌==◌, nat_le, Some, unwrap_or, map, refl}
 use Rattle.std.specs.Option.{option_map}
 use Rattle.std.specs.List.{find}
-use Rattle.rac_nums.specs.declared.value.Value.{Value}
 use Rattle.rac_nums.specs.declared.value.Value.TheVariants.{Absent}
 use Rattle.row_model.specs.Standing.{Change}
 use Rattle.row_model.specs.History.{Commit, changes_up_to, value_by}

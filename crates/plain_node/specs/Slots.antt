@@ -1,7 +1,5 @@
 -- What the transaction slots say.
 use Rattle.std.specs.Prelude.{ℕ, ◌+◌, ◌<◌, ◌≤◌, List, length, slice_index_or}
-use Rattle.rac_nums.specs.declared.names.Scn.{Scn}
-use Rattle.rac_nums.specs.declared.names.InstNo.{InstNo}
 use Rattle.rac_nums.specs.declared.names.Xid.{Xid}
 use Rattle.plain_node.specs.declared.slots.SlotUse.{SlotUse}
 

@@ -1,9 +1,8 @@
 -- What the node's state has to do with the journal so far: the invariant of the run.
-use Rattle.std.specs.Prelude.{◌≡◌, ℕ, ◌<◌, ◌≤◌, List, [], ◌∷◌, ◌++◌, reverse, map, Option, Some, None, IfSome, Bool, true, false}
+use Rattle.std.specs.Prelude.{◌≡◌, ℕ, ◌<◌, ◌≤◌, List, [], ◌∷◌, ◌++◌, reverse, map, Option, Some, IfSome, true, false}
 use Rattle.std.specs.Option.{option_map}
 use Rattle.rac_nums.specs.declared.names.Xid.{Xid}
 use Rattle.rac_nums.specs.declared.names.InstNo.{InstNo}
-use Rattle.row_model.specs.declared.entry.Entry.{Entry}
 use Rattle.row_model.specs.Past.{Past, Each, home_of, is_up}
 use Rattle.row_model.specs.Standing.{Change, standing, is_open}
 use Rattle.row_model.specs.Stood.{stood, is_commit, is_commit_by, acked_up_to, came_up}

@@ -1,20 +1,19 @@
 -- What each statement leaves of the node.
-use Rattle.std.specs.Prelude.{◌≡◌, ℕ, slice_index_or, MatchOption, ◌+◌, List, [], ◌∷◌, ◌++◌, reverse, Option, Some, None, unwrap_or, map, slice_set}
+use Rattle.std.specs.Prelude.{◌≡◌, ℕ, slice_index_or, MatchOption, ◌+◌, [], ◌∷◌, ◌++◌, reverse, Option, Some, None, unwrap_or, map, slice_set}
 use Rattle.rac_nums.specs.declared.names.RowNo.{RowNo}
 use Rattle.rac_nums.specs.declared.names.Scn.{Scn}
 use Rattle.rac_nums.specs.declared.names.Xid.{Xid}
 use Rattle.rac_nums.specs.declared.names.InstNo.{InstNo}
 use Rattle.rac_nums.specs.declared.value.Value.{Value}
-use Rattle.rac_nums.specs.declared.value.Value.TheVariants.{Absent, Num}
+use Rattle.rac_nums.specs.declared.value.Value.TheVariants.{Absent}
 use Rattle.row_model.specs.declared.entry.Entry.{Entry}
 use Rattle.row_model.specs.declared.entry.Entry.TheVariants.{Opened, Started, Rows, Changed, Marked, Committed, Acked, Plain}
 use Rattle.row_model.specs.Good.{listed}
 use Rattle.plain_node.specs.declared.node.Node.{Node}
-use Rattle.plain_node.specs.declared.slots.SlotUse.{SlotUse}
 use Rattle.plain_node.specs.declared.versions.Pending.{Pending}
 use Rattle.plain_node.specs.declared.versions.Version.{Version}
 use Rattle.plain_node.specs.Versions.{pending_value, ended_value}
-use Rattle.plain_node.specs.Slots.{never, wrap_at, end_at, IsLeastUsed, next_xid}
+use Rattle.plain_node.specs.Slots.{never, wrap_at, IsLeastUsed, next_xid}
 
 -- what a row holds for the session at s
 abbrev pub value_in : Node → ℕ → ℕ → Value

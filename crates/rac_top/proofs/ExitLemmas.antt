@@ -1,7 +1,5 @@
 -- What holds of the exit where no script was read.
-use Rattle.std.proofs.Common.{◌≡◌, ℕ, List, Option, Some, None, IfSome, true, Err, Result, refl, rules}
-use Rattle.script_text.specs.ScriptParts.{ScriptParts}
-use Rattle.script_text.specs.Reading.{Refusal, reading}
+use Rattle.std.proofs.Common.{◌≡◌, ℕ, List, Option, Some, None, IfSome, true, refl}
 use Rattle.rac_top.specs.declared.reading.Unread.{Unread}
 use Rattle.rac_top.specs.declared.reading.Unread.TheVariants.{Fault, Line, NoMemory}
 use Rattle.rac_top.specs.Exits.{is_without_run, NoteFits, exit_unread}

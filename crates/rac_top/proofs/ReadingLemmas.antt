@@ -1,9 +1,9 @@
 -- What a text says, its beginning of the most bytes that are read says too.
-use Rattle.std.proofs.Common.{◌≡◌, ◌≤◌, ◌<◌, ℕ, List, Option, Some, None, length, take, IfSome, Result, ap, sym, subst, ◌⊎◌, inl, inr, arith, true, false}
+use Rattle.std.proofs.Common.{◌≡◌, ◌≤◌, ◌<◌, ℕ, List, Option, Some, None, length, take, IfSome, Result, ap, ◌⊎◌, inl, inr, arith, true, false}
 use Rattle.std.proofs.lemmas.List.{take_all}
 use Rattle.std.proofs.lemmas.Bool.Decides.{leb_tells}
 use Rattle.script_text.specs.ScriptParts.{ScriptParts}
-use Rattle.script_text.specs.Reading.{Refusal, reading}
+use Rattle.script_text.specs.Reading.{reading}
 use Rattle.rac_top.specs.declared.reading.Unread.{Unread}
 use Rattle.rac_top.specs.Runs.{Says}
 

@@ -1,10 +1,10 @@
 -- What the exits of the top call say.
-use Rattle.std.specs.Prelude.{◌≡◌, ℕ, List, [], ◌∷◌, Bool, true, ◌==◌, ◌||◌, Option, Some, Result, Ok, Err}
+use Rattle.std.specs.Prelude.{◌≡◌, ℕ, List, [], Bool, true, ◌==◌, ◌||◌, Option, Some, Ok, Err}
 use Rattle.std.specs.Io.KnownBytes.{Appends}
 use Rattle.rac_io.specs.Write.{AppendsPart}
 use Rattle.row_model.specs.declared.entry.Entry.{Entry}
 use Rattle.script_text.specs.ScriptParts.{ScriptParts}
-use Rattle.script_text.specs.Reading.{Refusal, reading}
+use Rattle.script_text.specs.Reading.{reading}
 use Rattle.run_report.specs.Reports.{report_text}
 use Rattle.rac_top.specs.declared.exit.Exit.{Exit}
 use Rattle.rac_top.specs.declared.exit.Note.{Note}

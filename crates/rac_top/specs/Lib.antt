@@ -1,3 +1,6 @@
 pub mod Words
 pub mod Runs
 pub mod Exits
+pub mod Refusals
+pub mod ControlLines
+pub mod Good

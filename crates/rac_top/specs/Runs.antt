@@ -1,5 +1,5 @@
 -- What the top call's answers say.
-use Rattle.std.specs.Prelude.{◌≡◌, ℕ, List, Result, Ok, Err}
+use Rattle.std.specs.Prelude.{◌≡◌, List, Result, Ok, Err}
 use Rattle.row_model.specs.declared.entry.Entry.{Entry}
 use Rattle.row_model.specs.Good.{GoodRows, GoodFound, GoodCommits, GoodAcknowledgements, GoodStarts, GoodRowLocks, GoodReplay}
 use Rattle.script_text.specs.Asked.{asked}

@@ -1,7 +1,6 @@
 -- A statement keeps the state in agreement with the journal; the session is number 0.
-use Rattle.std.proofs.Common.{◌≡◌, ◌∙◌, ap, subst, Option, ℕ}
+use Rattle.std.proofs.Common.{◌∙◌, ap}
 use Rattle.std.proofs.lemmas.Result.{on_ok_weaker}
-use Rattle.row_model.specs.Good.{Range}
 use Rattle.script_text.specs.Asked.{range_asked, range_of}
 use Rattle.plain_node.proofs.StepLemmas.{IsSound-got, IsSound-put, IsSound-committed, IsProper-opened, IsProper-got, IsProper-put, IsProper-committed}
 use Rattle.script_text.specs.Asked.{asked}
@@ -101,34 +100,34 @@ pub returns-in-Session-clause-lined : goal.returns-in-Session-clause-lined
 returns-in-Session-clause-lined c =
     let plain = (rw c.in-Session.is at c.requires.1.2.2) in
     on_ok_weaker c.open.result
-      (λ e parts done last next sound proper lined.
-        let e2 = rw plain.0 at e in
-        rw (e2, c.in-Session.is, plain.0) (IsLined-opened (asked parts) parts done last c.args.node.now c.args.line c.in-Session.inst (rw (c.in-Session.is, plain.0) at next) lined))
-      c.open.ensures
+    (λ e parts done last next sound proper lined.
+    let e2 = rw plain.0 at e in
+    rw (e2, c.in-Session.is, plain.0) (IsLined-opened (asked parts) parts done last c.args.node.now c.args.line c.in-Session.inst (rw (c.in-Session.is, plain.0) at next) lined))
+    c.open.ensures
 
 pub returns-in-Get-clause-lined : goal.returns-in-Get-clause-lined
 returns-in-Get-clause-lined c =
     let plain = (rw c.in-Stmt.is at c.requires.1.2.2) in
     on_ok_weaker c.get.result
-      (λ e parts done last next sound proper lined.
-        let e2 = rw plain.0 at e in
-        rw (e2, c.in-Stmt.is, c.in-Get.is, plain.0) (IsLined-got (asked parts) parts done last c.args.node.now c.args.line c.in-Get.row (rw (c.in-Stmt.is, c.in-Get.is, plain.0) at next) lined))
-      c.get.ensures
+    (λ e parts done last next sound proper lined.
+    let e2 = rw plain.0 at e in
+    rw (e2, c.in-Stmt.is, c.in-Get.is, plain.0) (IsLined-got (asked parts) parts done last c.args.node.now c.args.line c.in-Get.row (rw (c.in-Stmt.is, c.in-Get.is, plain.0) at next) lined))
+    c.get.ensures
 
 pub returns-in-Put-clause-lined : goal.returns-in-Put-clause-lined
 returns-in-Put-clause-lined c =
     let plain = (rw c.in-Stmt.is at c.requires.1.2.2) in
     on_ok_weaker c.put.result
-      (λ puts parts done last next sound proper lined.
-        rw (c.in-Stmt.is, c.in-Put.is, plain.0) (IsLined-put (asked parts) parts done last c.args.node.now c.args.line c.in-Put.row c.in-Put.value c.put.new.self
-          (rw (c.in-Stmt.is, c.in-Put.is, plain.0) at next) plain.1 sound proper lined (rw plain.0 at puts)))
-      c.put.ensures
+    (λ puts parts done last next sound proper lined.
+    rw (c.in-Stmt.is, c.in-Put.is, plain.0) (IsLined-put (asked parts) parts done last c.args.node.now c.args.line c.in-Put.row c.in-Put.value c.put.new.self
+    (rw (c.in-Stmt.is, c.in-Put.is, plain.0) at next) plain.1 sound proper lined (rw plain.0 at puts)))
+    c.put.ensures
 
 pub returns-in-Commit-clause-lined : goal.returns-in-Commit-clause-lined
 returns-in-Commit-clause-lined c =
     let plain = (rw c.in-Stmt.is at c.requires.1.2.2) in
     on_ok_weaker c.commit.result
-      (λ e parts done last next sound proper lined.
-        let e2 = rw plain.0 at e in
-        rw (e2, c.in-Stmt.is, c.in-Commit.is, plain.0) (IsLined-committed (asked parts) parts done last c.args.node.now c.args.line c.requires.1.1.slots (rw (c.in-Stmt.is, c.in-Commit.is, plain.0) at next) sound lined))
-      c.commit.ensures
+    (λ e parts done last next sound proper lined.
+    let e2 = rw plain.0 at e in
+    rw (e2, c.in-Stmt.is, c.in-Commit.is, plain.0) (IsLined-committed (asked parts) parts done last c.args.node.now c.args.line c.requires.1.1.slots (rw (c.in-Stmt.is, c.in-Commit.is, plain.0) at next) sound lined))
+    c.commit.ensures

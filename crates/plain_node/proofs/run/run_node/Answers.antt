@@ -15,9 +15,9 @@ pub returns : goal.returns
 returns c =
     let parts = c.args.script.now in
     rw c.waves.ensures at (c.in_ok-run_waves.ensures.right parts (rw c.waves.ensures (all-next parts [] (items_of parts) c.requires refl))
-      (record {
-        sound = c.new-node.ensures.sound (asked parts);
-        proper = c.new-node.ensures.proper;
-        named = rw c.new-node.ensures.journal (All-nil (λ (e : Entry). IfSome (session_in e) (λ z. z < length parts.names)));
-        lined = rw c.new-node.ensures.journal (record { lines = tt; answered = tt; until = (omega arith); unended = λ x later. refl });
-      }))
+    (record {
+      sound = c.new-node.ensures.sound (asked parts);
+      proper = c.new-node.ensures.proper;
+      named = rw c.new-node.ensures.journal (All-nil (λ (e : Entry). IfSome (session_in e) (λ z. z < length parts.names)));
+      lined = rw c.new-node.ensures.journal (record { lines = tt; answered = tt; until = (omega arith); unended = λ x later. refl });
+    }))

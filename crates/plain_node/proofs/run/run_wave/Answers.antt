@@ -1,6 +1,6 @@
 -- The next line is the first of what is left.
 use Rattle.script_text.specs.declared.item.Item.{Item}
-use Rattle.std.proofs.Common.{ℕ, List, get_or, ◌∙◌, ◌++◌, ◌+◌, ◌≤◌, drop, length, rules, ap, arith}
+use Rattle.std.proofs.Common.{ℕ, List, get_or, ◌∙◌, ◌++◌, ◌+◌, ◌≤◌, drop, length, rules, ap}
 use Rattle.std.proofs.lemmas.List.{drop_all}
 use Rattle.std.proofs.Common.{◌∷◌, [], append_assoc, append-nil, subst}
 use Rattle.std.specs.Option.{option_and_then}
@@ -24,20 +24,21 @@ loop-line-preserved c =
     record {
       runs = λ more can. c.in_ok-answer.ensures.runs (drop (c.loop-line.line-index + 1) c.args.wave.now ++ more) (rw cut at (c.loop-line.invariant.runs more can));
       right = λ parts before next r.
-        let so_far = c.loop-line.invariant.right parts before next r in
-        let done = so_far.0 in
-        let after = rw cut at so_far.2 in
-        let line = c.line-item.result in
-        let right = so_far.3 in
-        (done ++ line ∷ [],
-         append_assoc done (line ∷ []) (drop (c.loop-line.line-index + 1) c.args.wave.now) ∙ rw cut at so_far.1,
-         after.1,
-         record {
-           sound = c.in_ok-answer.ensures.sound (asked parts) (ap (option_and_then range_asked) after.0.asks) right.sound;
-           proper = c.in_ok-answer.ensures.proper (asked parts) right.sound right.proper;
-           named = c.in_ok-answer.ensures.named (length parts.names) after.0.names right.named;
-           lined = rw (last_line-push 0 done line) (c.in_ok-answer.ensures.lined parts done (last_line 0 done) after.0 right.sound right.proper right.lined);
-         });
+          let so_far = c.loop-line.invariant.right parts before next r in
+          let done = so_far.0 in
+          let after = rw cut at so_far.2 in
+          let line = c.line-item.result in
+          let right = so_far.3 in (
+            done ++ line ∷ [],
+            append_assoc done (line ∷ []) (drop (c.loop-line.line-index + 1) c.args.wave.now) ∙ rw cut at so_far.1,
+            after.1,
+            record {
+              sound = c.in_ok-answer.ensures.sound (asked parts) (ap (option_and_then range_asked) after.0.asks) right.sound;
+              proper = c.in_ok-answer.ensures.proper (asked parts) right.sound right.proper;
+              named = c.in_ok-answer.ensures.named (length parts.names) after.0.names right.named;
+              lined = rw (last_line-push 0 done line) (c.in_ok-answer.ensures.lined parts done (last_line 0 done) after.0 right.sound right.proper right.lined);
+            },
+          );
     }
 
 pub returns-clause-runs : goal.returns-clause-runs

@@ -1,7 +1,6 @@
 -- The next wave is the first of what is left.
 use Rattle.script_text.specs.declared.item.Item.{Item}
-use Rattle.std.proofs.Common.{ℕ, List, get_or, ◌∙◌, ◌++◌, ◌+◌, ◌≤◌, drop, length, rules, ap, arith}
-use Rattle.std.proofs.lemmas.Result.{on_ok_weaker}
+use Rattle.std.proofs.Common.{ℕ, List, get_or, ◌∙◌, ◌++◌, ◌+◌, ◌≤◌, drop, length, rules, ap}
 use Rattle.script_text.specs.Reading.{joined}
 use Rattle.std.proofs.Common.{append_assoc, append-nil, subst}
 use Rattle.std.proofs.lemmas.List.{drop_all}
@@ -23,19 +22,20 @@ loop-wave-preserved c =
     record {
       runs = c.in_ok-run_wave.ensures.runs rest (rw cut at c.loop-wave.invariant.runs);
       right = λ parts next r.
-        let so_far = c.loop-wave.invariant.right parts next r in
-        let split = AreNext-split parts so_far.0 c.wave-item.result rest (rw cut at so_far.2) in
-        (so_far.0 ++ c.wave-item.result,
-         append_assoc so_far.0 c.wave-item.result rest ∙ rw cut at so_far.1,
-         split.1,
-         c.in_ok-run_wave.ensures.right parts so_far.0 split.0 so_far.3);
+          let so_far = c.loop-wave.invariant.right parts next r in
+          let split = AreNext-split parts so_far.0 c.wave-item.result rest (rw cut at so_far.2) in (
+            so_far.0 ++ c.wave-item.result,
+            append_assoc so_far.0 c.wave-item.result rest ∙ rw cut at so_far.1,
+            split.1,
+            c.in_ok-run_wave.ensures.right parts so_far.0 split.0 so_far.3,
+          );
     }
 
 pub returns : goal.returns
 returns c = record {
   right = λ parts next r.
-    let le : length c.args.waves.now ≤ c.loop-wave.wave-index = search rules in
-    let so_far = c.loop-wave.invariant.right parts next r in
-    let all = rw (drop_all c.loop-wave.wave-index c.args.waves.now le, append-nil so_far.0) at so_far.1 in
-    subst (λ (done : List (ℕ × Item)). IsRight parts done c.loop-wave.node) all so_far.3;
+      let le : length c.args.waves.now ≤ c.loop-wave.wave-index = search rules in
+      let so_far = c.loop-wave.invariant.right parts next r in
+      let all = rw (drop_all c.loop-wave.wave-index c.args.waves.now le, append-nil so_far.0) at so_far.1 in
+      subst (λ (done : List (ℕ × Item)). IsRight parts done c.loop-wave.node) all so_far.3;
 }

@@ -1,7 +1,7 @@
 -- The exits without a script are told by `exit_unread`, and the others have the statuses 0 and 5.
-use Rattle.std.proofs.Common.{◌≡◌, ℕ, List, true, Err, refl, ap, rules, ⊎_elim}
+use Rattle.std.proofs.Common.{◌≡◌, true, Err}
 use Rattle.script_text.specs.Reading.{Refusal, reading}
-use Rattle.rac_top.specs.Exits.{is_without_run, NoteFits}
+use Rattle.rac_top.specs.Exits.{is_without_run}
 use Rattle.rac_top.proofs.ExitLemmas.{note_unread, unread-without_run, IfSome-always}
 use Rattle.rac_top.proofs.top.rac.Goals as goal
 
