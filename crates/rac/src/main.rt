@@ -1,6 +1,9 @@
 //! `rac run [--journal]` runs the script on standard input and writes its report to standard output.
 #![tactic(auto)]
 
+ghost use Rattle.std.specs.Prelude.{◌≡◌, []};
+ghost use Rattle.rac_top.specs.Exits.{NoteFits};
+
 mod notes;
 
 use notes::note_line;
@@ -17,7 +20,10 @@ fn read_words<R: Env + AllocGlobal>(rt: &R) -> io::Result<Vec<String>> {
 }
 
 /// The exit where the words could not be had: for want of memory, or since one of them is no text.
-fn exit_without_words<R: AllocGlobal>(rt: &R, why: io::Error) -> Exit {
+fn exit_without_words<R: AllocGlobal>(rt: &R, why: io::Error) -> Exit
+    ensures note { NoteFits result.note result.status }
+    ensures silent { result.journal ≡ [] }
+{
     let (status, note) = match why.kind() {
         io::ErrorKind::OutOfMemory => (7, Note::Nothing),
         _ => (2, Note::Usage),
