@@ -59,6 +59,11 @@ fn ends_as_it_should(rt: HostRuntime) -> Result<(), Fail> {
             ..RUN
         },
         Case {
+            script: "# note\ninstances 1\n\nsession a on 0\na: put 0 1\ngo\n# again\na: commit\ngo\na: get 0\n",
+            written: "5: changed\n8: committed\n10: rows 0=1\n",
+            ..RUN
+        },
+        Case {
             script: "instances 1\nsession a on 0\na: get 31\na: get 0\n",
             written: "3: rows none\n4: rows none\n",
             ..RUN
