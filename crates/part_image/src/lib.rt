@@ -5,6 +5,8 @@ mod bit;
 mod bytes;
 mod front;
 mod itl;
+#[cfg(test)]
+mod tests;
 mod txn_slot;
 mod undo_record;
 mod value;
