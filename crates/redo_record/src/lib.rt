@@ -1,0 +1,6 @@
+//! Redo records as bytes.
+#![tactic(auto)]
+
+mod front;
+
+pub use front::Front;
