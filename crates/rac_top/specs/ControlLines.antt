@@ -15,8 +15,8 @@ use Rattle.script_text.specs.declared.item.Item.TheVariants as items
 use Rattle.script_text.specs.declared.item.Stmt.{Stmt}
 use Rattle.script_text.specs.declared.item.Stmt.TheVariants.{Commit, Rollback, RollbackTo}
 use Rattle.script_text.specs.ScriptParts.{ScriptParts}
-use Rattle.script_text.specs.Lines.{answered, answers_stmt, stmt_at}
-use Rattle.run_report.specs.Ends.{is_answered, is_asked, is_done, current_wave, ended_in}
+use Rattle.script_text.specs.Lines.{answered, answers_stmt, stmt_at, current_wave}
+use Rattle.run_report.specs.Ends.{is_answered, is_asked, is_done, ended_in}
 use Rattle.rac_top.specs.Refusals.{starts, is_under_way}
 
 -- the number of the current wave: the first that has a line without an answer, else the last

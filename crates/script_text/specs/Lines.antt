@@ -1,10 +1,12 @@
 -- The lines of a script, and the entries of a journal that answer them.
-use Rattle.std.specs.Prelude.{◌≡◌, ℕ, List, [], ◌∷◌, ◌++◌, Bool, true, false, ◌==◌, if◌then◌else◌, Option, Some, None}
-use Rattle.std.specs.List.{list_any}
+use Rattle.std.specs.Prelude.{◌≡◌, ℕ, ◌+◌, ◌-◌, List, [], ◌∷◌, ◌++◌, Bool, true, false, ◌==◌, if◌then◌else◌, Option}
+use Rattle.std.specs.Prelude.{Some, None}
+use Rattle.std.specs.List.{list_any, list_all}
 use Rattle.std.specs.Option.{option_and_then, option_map_or}
 use Rattle.rac_nums.specs.declared.names.InstNo.{InstNo}
 use Rattle.row_model.specs.declared.entry.Entry.{Entry}
-use Rattle.row_model.specs.declared.entry.Entry.TheVariants.{Opened, Started, Rows, Changed, Locked, Acked, Plain, Refused}
+use Rattle.row_model.specs.declared.entry.Entry.TheVariants.{Opened, Started, Rows, Changed, Locked, Acked, Plain}
+use Rattle.row_model.specs.declared.entry.Entry.TheVariants.{Refused}
 use Rattle.row_model.specs.Past.{Past}
 use Rattle.row_model.specs.Stood.{stood}
 use Rattle.script_text.specs.declared.item.Item.{Item}
@@ -63,6 +65,13 @@ opening z (line ∷ lines) = opening_in z line.0 line.1 (opening z lines)
 abbrev pub earlier : ℕ → List (List (ℕ × Item)) → List (ℕ × Item)
 earlier n [] = []
 earlier n (wave ∷ waves) = if list_any (λ line. line.0 == n) wave then [] else wave ++ earlier n waves
+
+-- the number of the current wave, where a line of a wave may be done: the first wave, counted from `first`, that has
+-- a line which isn't done, else the last one
+abbrev pub current_wave : (ℕ → ℕ × Item → Bool) → ℕ → List (List (ℕ × Item)) → ℕ
+current_wave done first [] = first - 1
+current_wave done first (wave ∷ waves) =
+    if list_all (done first) wave then current_wave done (first + 1) waves else first
 
 -- each statement among these lines is answered
 abbrev pub IsAnswered : ℕ → Item → Past → Type 0
