@@ -16,7 +16,8 @@ use Rattle.plain_node.specs.Slots.{wrap_at}
 use Rattle.plain_node.specs.Runs.{IsSound, IsProper, IsNamed}
 
 -- These lines of the script were run, the last of them with this number.
-pub record Lined (parts : ScriptParts) (done : List (ℕ × Item)) (last : ℕ) (past : Past) (slots : List SlotUse) : Type 0 where
+pub record Lined (parts : ScriptParts) (done : List (ℕ × Item)) (last : ℕ) (past : Past) (slots : List SlotUse)
+    : Type 0 where
   pub lines : Each (LineIsProper parts) past
   pub answered : AreAnswered done past
   pub until : last_answer parts 0 past ≤ last

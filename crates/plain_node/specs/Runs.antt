@@ -1,5 +1,6 @@
 -- Which lines the node can run.
-use Rattle.std.specs.Prelude.{◌≡◌, ℕ, ◌^◌, ◌<◌, ◌≤◌, List, [], ◌∷◌, length, reverse, Bool, true, false, IfSome, is_some, Option, All}
+use Rattle.std.specs.Prelude.{◌≡◌, ℕ, ◌^◌, ◌<◌, ◌≤◌, List, [], ◌∷◌, length, reverse}
+use Rattle.std.specs.Prelude.{Bool, true, false, IfSome, is_some, Option, All}
 use Rattle.script_text.specs.Lines.{session_in}
 use Rattle.row_model.specs.Good.{Range}
 use Rattle.script_text.specs.declared.item.Item.{Item}

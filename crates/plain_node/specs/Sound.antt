@@ -8,7 +8,8 @@ use Rattle.row_model.specs.Standing.{Change, standing, is_open}
 use Rattle.row_model.specs.Stood.{stood, is_commit, is_commit_by, acked_up_to, came_up}
 use Rattle.row_model.specs.History.{Commit, history_of_past}
 use Rattle.row_model.specs.Sees.{own, own_changes}
-use Rattle.row_model.specs.Good.{Range, RowsAreSeen, FoundIsSeen, CommitIsProper, AckIsProper, StartIsProper, RowIsFree, changes_in, Replays}
+use Rattle.row_model.specs.Good.{Range, RowsAreSeen, FoundIsSeen, CommitIsProper}
+use Rattle.row_model.specs.Good.{AckIsProper, StartIsProper, RowIsFree, changes_in, Replays}
 use Rattle.row_model.proofs.HistoryLemmas.{UpTo, latest_start}
 use Rattle.plain_node.specs.declared.node.Node.{Node}
 use Rattle.plain_node.specs.declared.slots.SlotUse.{SlotUse}

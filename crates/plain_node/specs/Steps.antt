@@ -1,5 +1,6 @@
 -- What each statement leaves of the node.
-use Rattle.std.specs.Prelude.{◌≡◌, ℕ, slice_index_or, MatchOption, ◌+◌, [], ◌∷◌, ◌++◌, reverse, Option, Some, None, unwrap_or, map, slice_set}
+use Rattle.std.specs.Prelude.{◌≡◌, ℕ, slice_index_or, MatchOption, ◌+◌, [], ◌∷◌, ◌++◌}
+use Rattle.std.specs.Prelude.{reverse, Option, Some, None, unwrap_or, map, slice_set}
 use Rattle.rac_nums.specs.declared.names.RowNo.{RowNo}
 use Rattle.rac_nums.specs.declared.names.Scn.{Scn}
 use Rattle.rac_nums.specs.declared.names.Xid.{Xid}
@@ -7,7 +8,8 @@ use Rattle.rac_nums.specs.declared.names.InstNo.{InstNo}
 use Rattle.rac_nums.specs.declared.value.Value.{Value}
 use Rattle.rac_nums.specs.declared.value.Value.TheVariants.{Absent}
 use Rattle.row_model.specs.declared.entry.Entry.{Entry}
-use Rattle.row_model.specs.declared.entry.Entry.TheVariants.{Opened, Started, Rows, Changed, Marked, Committed, Acked, Plain}
+use Rattle.row_model.specs.declared.entry.Entry.TheVariants.{Opened, Started, Rows, Changed}
+use Rattle.row_model.specs.declared.entry.Entry.TheVariants.{Marked, Committed, Acked, Plain}
 use Rattle.row_model.specs.Good.{listed}
 use Rattle.plain_node.specs.declared.node.Node.{Node}
 use Rattle.plain_node.specs.declared.versions.Pending.{Pending}
@@ -40,7 +42,9 @@ got node n z row = told (started node n z) (Rows n (listed (value_in node node.k
 abbrev pub begun : Node → ℕ → Node
 begun node k =
     record node {
-      slots = slice_set node.slots k (record { wrap = wrap_at node.slots k + 1; end = (slice_index_or node.slots k never).end });
+      slots =
+          slice_set node.slots k
+          (record { wrap = wrap_at node.slots k + 1; end = (slice_index_or node.slots k never).end });
       own = Some (next_xid node.slots k);
     }
 

@@ -2,7 +2,6 @@
 use Rattle.std.specs.Prelude.{ℕ, List, ◌++◌, ◌==◌, Option, Some, None, codes, decimal, if◌then◌else◌}
 use Rattle.script_text.specs.declared.rule.Rule.{Rule}
 use Rattle.script_text.specs.declared.rule.Rule.TheVariants as rules
-use Rattle.rac_top.specs.declared.exit.Exit.{Exit}
 use Rattle.rac_top.specs.declared.exit.Note.{Note}
 use Rattle.rac_top.specs.declared.exit.Note.TheVariants as notes
 

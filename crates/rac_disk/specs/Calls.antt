@@ -1,7 +1,9 @@
 -- What each call of a shared disk does to it. `old` and `new` are what the disk holds before and after the call.
-use Rattle.std.specs.Prelude.{◌≡◌, ◌≤◌, ◌+◌, ◌-◌, ℕ, List, ◌++◌, length, take, drop, min, Option, None, Some, Result, MatchResult, ◌⊎◌, ⊤}
+use Rattle.std.specs.Prelude.{◌≡◌, ◌≤◌, ◌+◌, ◌-◌, ℕ, List, ◌++◌, length, take, drop}
+use Rattle.std.specs.Prelude.{min, Option, None, Some, Result, MatchResult, ◌⊎◌, ⊤}
 use Rattle.rac_io.specs.Counts.{Rose}
-use Rattle.rac_disk.specs.Disk.{DiskState, IsDisk, block_at, log_at, room_at, control_at, with_block, with_log, with_control}
+use Rattle.rac_disk.specs.Disk.{DiskState, IsDisk, block_at, log_at, room_at}
+use Rattle.rac_disk.specs.Disk.{control_at, with_block, with_log, with_control}
 
 -- A disk that told what it holds before a call tells it after the call, and the call did this to it.
 abbrev pub WhereTold : Option DiskState → Option DiskState → (DiskState → DiskState → Type 0) → Type 0
@@ -44,7 +46,9 @@ GivesLength thread result old new = MatchResult result (λ len. len ≡ length (
 abbrev pub ReadsLog : {E : Type 0} → ℕ → ℕ → List ℕ → Result ℕ E → DiskState → DiskState → Type 0
 ReadsLog thread at out result old new =
     MatchResult result
-    (λ count. (count ≡ min (length (log_at old thread) - at) (length out)) × (take count out ≡ take count (drop at (log_at old thread))))
+    (λ count.
+    (count ≡ min (length (log_at old thread) - at) (length out))
+    × (take count out ≡ take count (drop at (log_at old thread))))
     (λ _. ⊤)
     × (new ≡ old)
 

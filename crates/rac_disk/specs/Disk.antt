@@ -47,7 +47,8 @@ with_block it block bytes = record it { blocks = slice_set it.blocks block bytes
 
 -- the disk with these bytes as a thread's log, and all else as it was, the log's room too
 abbrev pub with_log : DiskState → ℕ → List ℕ → DiskState
-with_log it thread bytes = record it { logs = slice_set it.logs thread (record { bytes = bytes; room = room_at it thread }) }
+with_log it thread bytes =
+    record it { logs = slice_set it.logs thread (record { bytes = bytes; room = room_at it thread }) }
 
 -- the disk with these bytes in a thread's control entry, and all else as it was
 abbrev pub with_control : DiskState → ℕ → List ℕ → DiskState

@@ -1,9 +1,11 @@
 -- A shared disk in memory, as contracts see it.
-use Rattle.std.specs.Prelude.{ℕ, zero, suc, ◌-◌, ◌==◌, ◌&&◌, nat_lt, nat_le, Bool, false, if◌then◌else◌, List, [], ◌++◌, length, take, Option, None, Some, is_some, find, slice_index, slice_set, replicate}
+use Rattle.std.specs.Prelude.{ℕ, zero, suc, ◌-◌, ◌==◌, ◌&&◌, nat_lt, nat_le, Bool, false, if◌then◌else◌, List, []}
+use Rattle.std.specs.Prelude.{◌++◌, length, take, Option, None, Some, is_some, find, slice_index, slice_set, replicate}
 use Rattle.std.specs.Option.{option_map}
 use Rattle.rac_io.specs.Memory.{count_after}
 use Rattle.rac_disk.specs.declared.plan.CallKind.{CallKind}
-use Rattle.rac_disk.specs.declared.plan.CallKind.TheVariants.{ReadBlock, WriteBlock, Append, Cut, LogLen, ReadLog, ReadControl, WriteControl}
+use Rattle.rac_disk.specs.declared.plan.CallKind.TheVariants.{ReadBlock, WriteBlock, Append, Cut, LogLen}
+use Rattle.rac_disk.specs.declared.plan.CallKind.TheVariants.{ReadLog, ReadControl, WriteControl}
 use Rattle.rac_disk.specs.declared.plan.Planned.{Planned}
 use Rattle.rac_disk.specs.Disk.{DiskState, LogState, log_at, room_at, with_log}
 
@@ -84,7 +86,9 @@ append_succeeds (Some keep) free bytes = false
 -- after an append, which keeps the bytes that it is to keep, as many as there is room for
 abbrev pub after_append : MemState → ℕ → List ℕ → MemState
 after_append it thread bytes = record {
-  disk = with_log it.disk thread (log_at it.disk thread ++ take (free_at it.disk thread) (piece_of (planned it.calls Append) bytes));
+  disk =
+      with_log it.disk thread
+      (log_at it.disk thread ++ take (free_at it.disk thread) (piece_of (planned it.calls Append) bytes));
   calls = with_call it.calls Append;
   full = if is_full (planned it.calls Append) (free_at it.disk thread) bytes then count_after it.full else it.full;
 }

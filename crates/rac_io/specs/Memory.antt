@@ -1,5 +1,6 @@
 -- Sources and sinks in memory, as contracts see them.
-use Rattle.std.specs.Prelude.{ℕ, zero, suc, ◌+◌, ◌-◌, ◌^◌, ◌==◌, min, max, Bool, true, false, if◌then◌else◌, List, [], ◌∷◌, ◌++◌, length, take, drop}
+use Rattle.std.specs.Prelude.{ℕ, zero, suc, ◌+◌, ◌-◌, ◌^◌, ◌==◌, min, max, Bool, true}
+use Rattle.std.specs.Prelude.{false, if◌then◌else◌, List, [], ◌∷◌, ◌++◌, length, take, drop}
 use Rattle.std.specs.List.{list_any}
 use Rattle.rac_io.specs.declared.source.Got.{Got}
 use Rattle.rac_io.specs.declared.sink.Put.{Put}
@@ -60,5 +61,6 @@ write_answer false (suc free) (byte ∷ piece) = Put.Bytes (min (suc free) (leng
 
 -- a sink after a write of this piece that was answered so
 abbrev pub after_write : SinkView → List ℕ → Put → SinkView
-after_write it piece (Put.Bytes count) = record { holds = it.holds ++ take count piece; room = it.room; calls = with_call it.calls false }
+after_write it piece (Put.Bytes count) =
+    record { holds = it.holds ++ take count piece; room = it.room; calls = with_call it.calls false }
 after_write it piece Put.Failed = record { holds = it.holds; room = it.room; calls = with_call it.calls true }

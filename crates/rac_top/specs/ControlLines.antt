@@ -1,11 +1,13 @@
 -- What the control lines of a script, and its ends and rollbacks, may leave in a journal.
-use Rattle.std.specs.Prelude.{◌≡◌, ℕ, ◌+◌, List, [], ◌∷◌, length, reverse, Bool, true, false, ◌==◌, ◌&&◌, ◌||◌, ◌⊎◌, not, if◌then◌else◌, Option, Some, None, IsSomeAnd, Contains, slice_index_or, is_none}
+use Rattle.std.specs.Prelude.{◌≡◌, ℕ, ◌+◌, List, [], ◌∷◌, length, reverse, Bool, true, false, ◌==◌, ◌&&◌, ◌||◌, ◌⊎◌}
+use Rattle.std.specs.Prelude.{not, if◌then◌else◌, Option, Some, None, IsSomeAnd, Contains, slice_index_or, is_none}
 use Rattle.std.specs.List.{list_any, list_all}
 use Rattle.std.specs.Option.{option_map_or}
 use Rattle.rac_nums.specs.declared.names.InstNo.{InstNo}
 use Rattle.rac_nums.specs.declared.names.Xid.{Xid}
 use Rattle.row_model.specs.declared.entry.Entry.{Entry}
-use Rattle.row_model.specs.declared.entry.Entry.TheVariants.{Marked, Undone, Rolled, Crashed, Up, Moved, Checkpointed, NotDone}
+use Rattle.row_model.specs.declared.entry.Entry.TheVariants.{Marked, Undone, Rolled, Crashed}
+use Rattle.row_model.specs.declared.entry.Entry.TheVariants.{Up, Moved, Checkpointed, NotDone}
 use Rattle.row_model.specs.Past.{Past, Each, start_of, home_of, is_loss_of, is_up}
 use Rattle.row_model.specs.Standing.{standing}
 use Rattle.row_model.specs.Sees.{own}
@@ -15,8 +17,8 @@ use Rattle.script_text.specs.declared.item.Item.TheVariants as items
 use Rattle.script_text.specs.declared.item.Stmt.{Stmt}
 use Rattle.script_text.specs.declared.item.Stmt.TheVariants.{Commit, Rollback, RollbackTo}
 use Rattle.script_text.specs.ScriptParts.{ScriptParts}
-use Rattle.script_text.specs.Lines.{answered, answers_stmt, stmt_at}
-use Rattle.run_report.specs.Ends.{is_answered, is_asked, is_done, current_wave, ended_in}
+use Rattle.script_text.specs.Lines.{answered, answers_stmt, stmt_at, current_wave}
+use Rattle.run_report.specs.Ends.{is_answered, is_asked, is_done, ended_in}
 use Rattle.rac_top.specs.Refusals.{starts, is_under_way}
 
 -- the number of the current wave: the first that has a line without an answer, else the last
@@ -77,7 +79,8 @@ ControlIsAsked parts journal past e (Some n) =
 
 -- a statement of the session that owns a transaction is under way, and is one of these
 abbrev pub IsEnding : ScriptParts → Xid → Past → (Stmt → Type 0) → Type 0
-IsEnding parts x past P = (n : ℕ) × (is_under_way n past ≡ true) × IsSomeAnd (stmt_at parts n) (λ stmt. (own stmt.0 past ≡ Some x) × P stmt.1)
+IsEnding parts x past P =
+    (n : ℕ) × (is_under_way n past ≡ true) × IsSomeAnd (stmt_at parts n) (λ stmt. (own stmt.0 past ≡ Some x) × P stmt.1)
 
 abbrev pub IsCommit : Stmt → Type 0
 IsCommit Commit = Unit {0}
@@ -124,7 +127,8 @@ abbrev pub HoldIsKept : List ℕ → List ℕ → Past → Entry → Type 0
 HoldIsKept [] others past e = Unit {0}
 HoldIsKept (reader ∷ more) others past e = let readers = reader ∷ more in
     ((m : ℕ) → Contains others m → starts m e ≡ true → list_any (λ n. stood (starts n) past) readers ≡ true)
-    × ((n : ℕ) → Contains readers n → answers_stmt n e ≡ true → list_all (λ m. stood (answers_stmt m) past) others ≡ true)
+    × ((n : ℕ) → Contains readers n → answers_stmt n e ≡ true
+    → list_all (λ m. stood (answers_stmt m) past) others ≡ true)
 
 -- each hold of the current wave is kept, where its reader has a line in the wave
 abbrev pub HoldsAreKept : ScriptParts → List Entry → Past → Entry → Type 0
@@ -136,13 +140,16 @@ HoldsAreKept parts journal past e =
 
 abbrev pub GoodControlLines : ScriptParts → List Entry → Type 0
 GoodControlLines parts journal =
-    Each (λ past e. ControlIsAsked parts journal past e (names_line e) × EndIsProper parts past e × HoldsAreKept parts journal past e) (reverse journal)
+    Each (λ past e.
+    ControlIsAsked parts journal past e (names_line e)
+    × EndIsProper parts past e × HoldsAreKept parts journal past e) (reverse journal)
 
 -- every control line of these waves is answered, by its number or by an end
 abbrev pub AreControlled : ScriptParts → List Entry → ℕ → List (List (ℕ × Item)) → Type 0
 AreControlled parts journal w [] = Unit {0}
 AreControlled parts journal w (wave ∷ waves) =
-    (list_all (λ line. not (is_asked line.1) || is_answered journal (reverse journal) (ended_in journal parts.waves (reverse journal)) w line) wave ≡ true)
+    (list_all (λ line. not (is_asked line.1)
+    || is_answered journal (reverse journal) (ended_in journal parts.waves (reverse journal)) w line) wave ≡ true)
     × AreControlled parts journal (w + 1) waves
 
 abbrev pub AllControlled : ScriptParts → List Entry → Type 0

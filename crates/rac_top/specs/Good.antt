@@ -1,16 +1,16 @@
 -- A good journal of a run of a script.
 use Rattle.std.specs.Prelude.{◌≡◌, ℕ, ◌⊎◌, List}
 use Rattle.row_model.specs.declared.entry.Entry.{Entry}
-use Rattle.row_model.specs.Good.{GoodRows, GoodFound, GoodCommits, GoodAcknowledgements, GoodStarts, GoodRowLocks, GoodReplay}
+use Rattle.row_model.specs.Good.{GoodRows, GoodFound, GoodCommits, GoodAcknowledgements}
+use Rattle.row_model.specs.Good.{GoodStarts, GoodRowLocks, GoodReplay}
 use Rattle.script_text.specs.ScriptParts.{ScriptParts}
 use Rattle.script_text.specs.Asked.{asked}
 use Rattle.script_text.specs.GoodLines.{GoodLines, AllAnswered}
 use Rattle.rac_top.specs.Refusals.{GoodRefusals}
 use Rattle.rac_top.specs.ControlLines.{GoodControlLines, AllControlled}
 
--- All that is promised of the journal of a run that ended with a status. At the statuses 0 and 6 the run went to
--- its end, and every line is answered.
-pub record Good (parts : ScriptParts) (status : ℕ) (journal : List Entry) : Type 0 where
+-- The statements are answered in order, each as it asks and by what its session sees, and what they did is one history.
+pub record GoodStatements (parts : ScriptParts) (journal : List Entry) : Type 0 where
   pub rows : GoodRows (asked parts) journal
   pub found : GoodFound journal
   pub commits : GoodCommits journal
@@ -19,6 +19,11 @@ pub record Good (parts : ScriptParts) (status : ℕ) (journal : List Entry) : Ty
   pub row_locks : GoodRowLocks journal
   pub replay : GoodReplay journal
   pub lines : GoodLines parts journal
+
+-- All that is promised of the journal of a run that ended with a status. At the statuses 0 and 6 the run went to
+-- its end, and every line is answered.
+pub record Good (parts : ScriptParts) (status : ℕ) (journal : List Entry) : Type 0 where
+  pub statements : GoodStatements parts journal
   pub answered : (status ≡ 0) ⊎ (status ≡ 6) → AllAnswered parts journal
   pub refusals : GoodRefusals parts journal
   pub control_lines : GoodControlLines parts journal

@@ -1,5 +1,7 @@
 -- When a statement may be refused.
-use Rattle.std.specs.Prelude.{◌≡◌, ◌≢◌, ℕ, ◌+◌, ◌-◌, ◌*◌, ◌/◌, ◌<◌, ◌≤◌, ◌+ℤ◌, FitsSigned, List, [], ◌∷◌, ◌++◌, length, reverse, Bool, true, false, not, MatchBool, ◌==◌, ◌&&◌, ◌||◌, ◌⊎◌, nat_lt, if◌then◌else◌, Option, Some, None, IfSome, IsSome, IsSomeAnd, Contains, All, IsTrue, ℤ}
+use Rattle.std.specs.Prelude.{◌≡◌, ◌≢◌, ℕ, ◌+◌, ◌-◌, ◌*◌, ◌/◌, ◌<◌, ◌≤◌, ◌+ℤ◌, FitsSigned, List, [], ◌∷◌, ◌++◌}
+use Rattle.std.specs.Prelude.{length, reverse, Bool, true, false, not, MatchBool, ◌==◌, ◌&&◌, ◌||◌, ◌⊎◌, nat_lt}
+use Rattle.std.specs.Prelude.{if◌then◌else◌, Option, Some, None, IfSome, IsSome, IsSomeAnd, Contains, All, IsTrue, ℤ}
 use Rattle.std.specs.List.{list_any, count_by}
 use Rattle.std.specs.Int.{w64}
 use Rattle.std.specs.Option.{option_map_or}
@@ -72,7 +74,8 @@ pub record AreOpen (inst : ℕ) (past : Past) (xids : List Xid) : Type 0 where
 abbrev pub used_after : ℕ → (Xid → Bool) → Entry → ℕ → ℕ
 used_after seg opened e before =
     if is_loss_of seg e then 0
-    else option_map_or (λ deed. if deed.0.seg.0 == seg && (nat_lt 0 before || opened deed.0) then before + 1 else before) (deed_of e) before
+    else option_map_or (λ deed.
+    if deed.0.seg.0 == seg && (nat_lt 0 before || opened deed.0) then before + 1 else before) (deed_of e) before
 
 abbrev pub undo_used : ℕ → (Xid → Bool) → Past → ℕ
 undo_used seg opened [] = 0
@@ -107,7 +110,8 @@ is_lost_any _ = false
 -- The instance was lost while the statement was under way, and since then only lost statements were refused.
 abbrev pub WasLost : ℕ → ℕ → Past → Type 0
 WasLost n i [] = ⊥
-WasLost n i (e ∷ past) = MatchBool (is_loss_of i e) (IsTrue (is_under_way n past)) (MatchBool (is_lost_any e) (WasLost n i past) ⊥)
+WasLost n i (e ∷ past) =
+    MatchBool (is_loss_of i e) (IsTrue (is_under_way n past)) (MatchBool (is_lost_any e) (WasLost n i past) ⊥)
 
 -- How a statement n with what it asks, of session z on instance i, stands at a place.
 module _ (parts : ScriptParts) (commits : List Commit) (n z i : ℕ) (what : Stmt) where
@@ -121,7 +125,10 @@ module _ (parts : ScriptParts) (commits : List Commit) (n z i : ℕ) (what : Stm
 
   -- the sum of what an add finds and adds is outside 64 bits
   abbrev pub IsOverflow : ℤ → ℤ → Past → Type 0
-  IsOverflow found by past = IsAdd what (λ row d. (by ≡ d) × IsSomeAnd (start_of n past) (λ start. found ≡ number_in (sees commits past start row.0)) × Overflows found by)
+  IsOverflow found by past =
+      IsAdd what (λ row d.
+      (by ≡ d) × IsSomeAnd (start_of n past) (λ start. found ≡ number_in (sees commits past start row.0))
+      × Overflows found by)
 
   -- the session has no transaction, and eight of its instance are open
   abbrev pub HasNoSlot : Past → Type 0
@@ -130,14 +137,16 @@ module _ (parts : ScriptParts) (commits : List Commit) (n z i : ℕ) (what : Stm
   -- the transaction has nothing in the block, and each of four others, that is open, has at a place of its own
   abbrev pub HasNoItl : ℕ → List Xid → (Xid → (Past → Type 0) → Type 0) → Past → Type 0
   HasNoItl block holders at past =
-      IsSomeAnd (target what) (λ row. row.0 / 8 ≡ block) × (length holders ≡ 4) × All (λ x. count_by (same_xid x) holders ≡ 1) holders
+      IsSomeAnd (target what) (λ row. row.0 / 8 ≡ block)
+      × (length holders ≡ 4) × All (λ x. count_by (same_xid x) holders ≡ 1) holders
       × IfSome (own z past) (λ x. (Contains holders x → ⊥) × (stands_in x block past ≡ false))
       × All (λ x. at x (λ q. (is_open x q ≡ true) × (stands_in x block q ≡ true))) holders
 
   -- the undo segment is full
   abbrev pub HasNoUndo : ℕ → ℕ → Past → Type 0
   HasNoUndo first next past =
-      IsSome (target what) × (next ≡ first + parts.settings.undo) × (undo_used i (λ x. is_open x past) past ≡ parts.settings.undo)
+      IsSome (target what) × (next ≡ first + parts.settings.undo)
+      × (undo_used i (λ x. is_open x past) past ≡ parts.settings.undo)
 
   -- the session has no such savepoint
   abbrev pub HasNoMark : Past → Type 0
@@ -150,7 +159,8 @@ module _ (parts : ScriptParts) (commits : List Commit) (n z i : ℕ) (what : Stm
       (own z past ≢ Some x)
       × IsSomeAnd (start_of n past) (λ start. All (λ commit. same_xid x commit.xid ≡ true → start.s < commit.c) commits)
       × ((k : ℕ) × (found ≡ wanted + (k + 1) * parts.settings.undo))
-      × ((newer older : Past) × (e : Entry) × (past ≡ newer ++ e ∷ older) × IsSomeAnd (deed_of e) (λ deed. (deed.0 ≡ x) × IsInBlocks what deed.1)
+      × ((newer older : Past) × (e : Entry) × (past ≡ newer ++ e ∷ older)
+      × IsSomeAnd (deed_of e) (λ deed. (deed.0 ≡ x) × IsInBlocks what deed.1)
       × (parts.settings.undo ≤ count_by (is_deed_in x.seg.0) newer)
       × (stood (is_loss_of x.seg.0) past ≡ false → wanted ≡ count_by (is_deed_in x.seg.0) older + 1))
 
@@ -159,13 +169,16 @@ module _ (parts : ScriptParts) (commits : List Commit) (n z i : ℕ) (what : Stm
   IsReused x found past =
       (own z past ≢ Some x) × (x.wrap + 2 ≤ found)
       × ((e : Entry) × Contains past e × IsSomeAnd (deed_of e) (λ deed. (deed.0 ≡ x) × IsInBlocks what deed.1))
-      × (stood (is_deed_of (record x { wrap = found })) past ≡ true) × (stood (is_deed_of (record x { wrap = found - 1 })) past ≡ true)
-      × IsSomeAnd (start_of n past) (λ start. All (λ commit. same_xid (record x { wrap = found - 1 }) commit.xid ≡ true → start.s < commit.c) commits)
+      × (stood (is_deed_of (record x { wrap = found })) past ≡ true)
+      × (stood (is_deed_of (record x { wrap = found - 1 })) past ≡ true)
+      × IsSomeAnd (start_of n past) (λ start.
+      All (λ commit. same_xid (record x { wrap = found - 1 }) commit.xid ≡ true → start.s < commit.c) commits)
 
   -- Each cause has its facts, those of other transactions at some place since the statement first started.
   abbrev pub IsProper : Past → Cause → Type 0
   IsProper past causes.NotConnected = IsNotConnected past
-  IsProper past (causes.Busy x) = (own z past ≢ Some x) × IsSomeAnd (target what) (λ row. SomeSince n (λ q. holds x row.0 q ≡ true) past)
+  IsProper past (causes.Busy x) =
+      (own z past ≢ Some x) × IsSomeAnd (target what) (λ row. SomeSince n (λ q. holds x row.0 q ≡ true) past)
   IsProper past (causes.Overflow found by) = IsOverflow found by past
   IsProper past (causes.NoTxnSlot inst) = (inst.0 ≡ i) × HasNoSlot past
   IsProper past (causes.NoItl block holders) = HasNoItl block.0 holders (λ x P. SomeSince n P past) past
@@ -197,8 +210,10 @@ module _ (parts : ScriptParts) (commits : List Commit) (n z i : ℕ) (what : Stm
   NoneBefore past (causes.Busy x) = IsNotConnected past → ⊥
   NoneBefore past (causes.Overflow found by) = (IsNotConnected past → ⊥) × NotBusy past
   NoneBefore past (causes.NoTxnSlot inst) = (IsNotConnected past → ⊥) × NotBusy past × NoOverflow past
-  NoneBefore past (causes.NoItl block holders) = (IsNotConnected past → ⊥) × NotBusy past × NoOverflow past × (HasNoSlot past → ⊥)
-  NoneBefore past (causes.NoUndo first next) = (IsNotConnected past → ⊥) × NotBusy past × NoOverflow past × (HasNoSlot past → ⊥) × HasItl past
+  NoneBefore past (causes.NoItl block holders) =
+      (IsNotConnected past → ⊥) × NotBusy past × NoOverflow past × (HasNoSlot past → ⊥)
+  NoneBefore past (causes.NoUndo first next) =
+      (IsNotConnected past → ⊥) × NotBusy past × NoOverflow past × (HasNoSlot past → ⊥) × HasItl past
   NoneBefore past causes.NoSavepoint = (IsNotConnected past → ⊥) × MayChange past
   NoneBefore past (causes.OldUndo x wanted found) = (IsNotConnected past → ⊥) × MayChange past × (HasNoMark past → ⊥)
   NoneBefore past (causes.OldSlot x found) = (IsNotConnected past → ⊥) × MayChange past × (HasNoMark past → ⊥)
@@ -211,15 +226,19 @@ OfStmt parts n past P = IsSomeAnd (stmt_at parts n) (λ stmt. IsSomeAnd (home_of
 -- A refusal has a proper cause, the first that holds; at a change none is in the way.
 abbrev pub RefusalIsProper : ScriptParts → List Commit → Past → Entry → Type 0
 RefusalIsProper parts commits past (Refused n cause) =
-    OfStmt parts n past (λ z i what. IsProper parts commits n z i what past cause × NoneBefore parts commits n z i what past cause)
-RefusalIsProper parts commits past (Changed n x row found new) = OfStmt parts n past (λ z i what. MayChange parts commits n z i what past)
-RefusalIsProper parts commits past (Locked n x row) = OfStmt parts n past (λ z i what. MayChange parts commits n z i what past)
+    OfStmt parts n past (λ z i what.
+    IsProper parts commits n z i what past cause × NoneBefore parts commits n z i what past cause)
+RefusalIsProper parts commits past (Changed n x row found new) =
+    OfStmt parts n past (λ z i what. MayChange parts commits n z i what past)
+RefusalIsProper parts commits past (Locked n x row) =
+    OfStmt parts n past (λ z i what. MayChange parts commits n z i what past)
 RefusalIsProper parts commits past _ = Unit {0}
 
 -- each statement of an instance that is under way at its loss is refused as lost
 abbrev pub LossIsTold : ScriptParts → List Entry → Past → Entry → Type 0
 LossIsTold parts journal past e =
-    (n i : ℕ) → is_loss_of i e ≡ true → is_under_way n past ≡ true → OfStmt parts n past (λ z home what. home ≡ i) → stood (is_lost n) (reverse journal) ≡ true
+    (n i : ℕ) → is_loss_of i e ≡ true → is_under_way n past ≡ true
+    → OfStmt parts n past (λ z home what. home ≡ i) → stood (is_lost n) (reverse journal) ≡ true
 
 abbrev pub GoodRefusals : ScriptParts → List Entry → Type 0
 GoodRefusals parts journal =

@@ -1,11 +1,10 @@
 -- What the top call's answers say.
 use Rattle.std.specs.Prelude.{◌≡◌, List, Result, Ok, Err}
 use Rattle.row_model.specs.declared.entry.Entry.{Entry}
-use Rattle.row_model.specs.Good.{GoodRows, GoodFound, GoodCommits, GoodAcknowledgements, GoodStarts, GoodRowLocks, GoodReplay}
-use Rattle.script_text.specs.Asked.{asked}
-use Rattle.script_text.specs.GoodLines.{GoodLines, AllAnswered}
+use Rattle.script_text.specs.GoodLines.{AllAnswered}
 use Rattle.script_text.specs.ScriptParts.{ScriptParts}
 use Rattle.script_text.specs.Reading.{Refusal}
+use Rattle.rac_top.specs.Good.{GoodStatements}
 use Rattle.rac_top.specs.declared.reading.Unread.{Unread}
 use Rattle.rac_top.specs.declared.reading.Unread.TheVariants.{Fault, Line, NoMemory}
 
@@ -22,12 +21,5 @@ Says (Err why) said = IsUnread why said
 
 -- the journal of a run of a script is good, as far as its clauses speak of what the run can do
 pub record IsGoodRun (parts : ScriptParts) (journal : List Entry) : Type 0 where
-  pub rows : GoodRows (asked parts) journal
-  pub found : GoodFound journal
-  pub commits : GoodCommits journal
-  pub acknowledgements : GoodAcknowledgements journal
-  pub starts : GoodStarts journal
-  pub row_locks : GoodRowLocks journal
-  pub replay : GoodReplay journal
-  pub lines : GoodLines parts journal
+  pub statements : GoodStatements parts journal
   pub answered : AllAnswered parts journal

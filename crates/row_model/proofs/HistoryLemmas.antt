@@ -1,11 +1,11 @@
 -- A commit later than all before it enters the history first, and leaves the table at every earlier SCN alone.
-use Rattle.std.proofs.Common.{◌≡◌, ◌∙◌, ℕ, ◌+◌, ◌<◌, ◌≤◌, List, [], ◌∷◌, ◌++◌, Bool, true, false, cond, max, ◌&&◌, ◌||◌, ◌==◌, nat_le, nat_lt, Option, Some, None, IsSomeAnd, refl, ap, sym, subst, arith, eqb}
-use Rattle.std.proofs.lemmas.Bool.{le-ltb, lt-leb, le-leb, ne_eqb}
+use Rattle.std.proofs.Common.{◌≡◌, ℕ, ◌+◌, ◌<◌, ◌≤◌, List, [], ◌∷◌, ◌++◌, Bool, true, false, cond, max, ◌==◌, Option, Some, None, IsSomeAnd, refl, ap, subst, arith}
+use Rattle.std.proofs.lemmas.Bool.{le-ltb, lt-leb, ne_eqb}
 use Rattle.row_model.specs.declared.entry.Entry.{Entry}
 use Rattle.row_model.specs.declared.entry.Entry.TheVariants.{Started, Rows, Changed}
 use Rattle.row_model.specs.Past.{Past, Each, Start, start_of, start_after}
 use Rattle.row_model.specs.Standing.{Change}
-use Rattle.row_model.specs.History.{Commit, is_before, entered, changes_up_to, value_by}
+use Rattle.row_model.specs.History.{Commit, entered, changes_up_to, value_by}
 use Rattle.row_model.specs.Sees.{sees, own_changes}
 use Rattle.row_model.specs.Good.{Range, listed, RowsAreSeen, FoundIsSeen}
 

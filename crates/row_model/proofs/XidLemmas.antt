@@ -1,5 +1,5 @@
 -- `same_xid` is equality of names of transactions.
-use Rattle.std.proofs.Common.{◌≡◌, ◌∙◌, ℕ, Bool, true, false, ◌&&◌, ◌==◌, refl, ap, sym, eqb}
+use Rattle.std.proofs.Common.{◌≡◌, ◌∙◌, ℕ, Bool, true, false, ◌&&◌, ◌==◌, refl, ap}
 use Rattle.std.proofs.lemmas.Bool.{eqb-true, eq-eqb}
 use Rattle.rac_nums.specs.declared.names.Xid.{Xid}
 use Rattle.row_model.specs.Past.{same_xid}

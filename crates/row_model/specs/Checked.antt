@@ -4,7 +4,7 @@ use Rattle.rac_nums.specs.declared.names.RowNo.{RowNo}
 use Rattle.rac_nums.specs.declared.value.Value.{Value}
 use Rattle.row_model.specs.declared.entry.Entry.{Entry}
 use Rattle.row_model.specs.declared.entry.Entry.TheVariants.{Started, Rows, Changed, Locked}
-use Rattle.row_model.specs.Past.{Past, Each, Start, start_of, home_of}
+use Rattle.row_model.specs.Past.{Past, Each, start_of, home_of}
 use Rattle.row_model.specs.History.{Commit, history}
 use Rattle.row_model.specs.Sees.{sees}
 use Rattle.row_model.specs.Good.{GoodFound, GoodCommits, GoodAcknowledgements, GoodStarts, GoodRowLocks, GoodReplay}

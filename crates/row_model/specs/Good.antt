@@ -1,16 +1,18 @@
 -- The clauses of a good journal that need no script, but for the rows that a statement asks for.
-use Rattle.std.specs.Prelude.{◌≡◌, ℕ, zero, suc, ◌+◌, ◌≤◌, List, [], ◌∷◌, ◌++◌, reverse, Option, Some, None, IsSomeAnd, Bool, true, false}
+use Rattle.std.specs.Prelude.{◌≡◌, ℕ, zero, suc, ◌+◌, ◌≤◌, List, [], ◌∷◌, ◌++◌, reverse, Option, IsSomeAnd, true, false}
 use Rattle.rac_nums.specs.declared.names.RowNo.{RowNo}
 use Rattle.rac_nums.specs.declared.names.Xid.{Xid}
 use Rattle.rac_nums.specs.declared.value.Value.{Value}
 use Rattle.rac_nums.specs.declared.value.Value.TheVariants.{Absent, Num}
 use Rattle.row_model.specs.declared.entry.Entry.{Entry}
-use Rattle.row_model.specs.declared.entry.Entry.TheVariants.{Started, Rows, Changed, Locked, Marked, Committed, Acked, Undone, Rolled}
-use Rattle.row_model.specs.Past.{Past, Each, Start, start_of, home_of, is_up}
+use Rattle.row_model.specs.declared.entry.Entry.TheVariants.{Started, Rows, Changed, Locked, Marked}
+use Rattle.row_model.specs.declared.entry.Entry.TheVariants.{Committed, Acked, Undone, Rolled}
+use Rattle.row_model.specs.Past.{Past, Each, start_of, home_of, is_up}
 use Rattle.row_model.specs.Standing.{Change, holds}
 use Rattle.row_model.specs.History.{Commit, history, value_by}
 use Rattle.row_model.specs.Sees.{sees}
-use Rattle.row_model.specs.Stood.{stood, is_mark, is_mark_by, is_commit, is_commit_at, is_commit_by, acked_up_to, started_up_to, came_up}
+use Rattle.row_model.specs.Stood.{stood, is_mark, is_mark_by, is_commit, is_commit_at}
+use Rattle.row_model.specs.Stood.{is_commit_by, acked_up_to, started_up_to, came_up}
 
 -- the rows that a statement asks for: so many from the first on
 pub record Range : Type 0 where

@@ -1,5 +1,5 @@
 -- What stands before a place of a journal.
-use Rattle.std.specs.Prelude.{ℕ, max, List, [], ◌∷◌, Bool, true, false, ◌==◌, ◌&&◌, if◌then◌else◌}
+use Rattle.std.specs.Prelude.{ℕ, max, [], ◌∷◌, Bool, true, false, ◌==◌, ◌&&◌, if◌then◌else◌}
 use Rattle.std.specs.List.{list_any}
 use Rattle.rac_nums.specs.declared.names.Xid.{Xid}
 use Rattle.row_model.specs.declared.entry.Entry.{Entry}

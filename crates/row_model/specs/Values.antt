@@ -24,4 +24,5 @@ as_deed (Locked row) = Locks row.0
 
 -- a commit with its changes
 abbrev pub as_commit : TxnCommit → Commit
-as_commit commit = record { c = commit.c.0; inst = commit.inst.0; xid = commit.xid; changes = map as_change commit.changes.items }
+as_commit commit =
+    record { c = commit.c.0; inst = commit.inst.0; xid = commit.xid; changes = map as_change commit.changes.items }

@@ -4,7 +4,7 @@ ghost use Rattle.row_model.specs.History.{history};
 ghost use Rattle.row_model.specs.Good.{Range, RowsAreSeen, GoodRows, FoundIsSeen, GoodFound, CommitIsProper, GoodCommits, AckIsProper, GoodAcknowledgements, StartIsProper, GoodStarts, RowIsFree, GoodRowLocks};
 
 /// What holds of each entry and its past holds at each place of the journal, and the other way round.
-pub fn rows_at_each_place()
+pub fn clauses_hold_at_each_place()
     ensures rows { (asked : ℕ → Option Range) (journal : List Entry) → GoodRows asked journal ↔
         ((before after : List Entry) (e : Entry) → journal ≡ before ++ e ∷ after →
         RowsAreSeen asked (history journal) (reverse before) e) }

@@ -18,4 +18,4 @@ pub use rac_nums::Value;
 
 mod laws;
 
-pub use laws::rows_at_each_place;
+pub use laws::clauses_hold_at_each_place;

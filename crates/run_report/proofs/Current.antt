@@ -3,7 +3,7 @@ use Rattle.std.proofs.Common.{◌≡◌, ℕ, zero, suc, ◌+◌, ◌-◌, ◌<�
 use Rattle.std.proofs.lemmas.Bool.{cases_lt}
 use Rattle.std.specs.List.{list_all}
 use Rattle.script_text.specs.declared.item.Item.{Item}
-use Rattle.run_report.specs.Ends.{current_wave}
+use Rattle.script_text.specs.Lines.{current_wave}
 use Rattle.run_report.specs.Found.{AreSettled}
 
 pub list_all-cong : {X : Type 0} (p q : X → Bool) (xs : List X) → ((x : X) → p x ≡ q x) → list_all p xs ≡ list_all q xs

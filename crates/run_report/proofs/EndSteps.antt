@@ -5,7 +5,9 @@ use Rattle.rac_nums.specs.declared.names.InstNo.{InstNo}
 use Rattle.row_model.specs.declared.entry.Entry.{Entry}
 use Rattle.row_model.specs.declared.entry.Entry.TheVariants.{Ended}
 use Rattle.script_text.specs.declared.item.Item.{Item}
-use Rattle.run_report.specs.Ends.{current_wave, ended_in, ends, is_done, is_up, is_up_after}
+use Rattle.row_model.specs.Past.{up_after, is_up}
+use Rattle.script_text.specs.Lines.{current_wave}
+use Rattle.run_report.specs.Ends.{ended_in, ends, is_done}
 
 or_false : (a : Bool) → (a || false) ≡ a
 or_false true = refl
@@ -24,10 +26,8 @@ pub ended_in-other : (journal : List Entry) (waves : List (List (ℕ × Item))) 
     → (wave : ℕ) (down : Bool) (inst : InstNo) → ended_in journal waves (entry ∷ past) wave down inst ≡ ended_in journal waves past wave down inst
 ended_in-other journal waves past entry h wave down inst = rw (no_end entry h inst) (or_false (ended_in journal waves past wave down inst))
 
-same_up : (past : List Entry) (x y : InstNo) → (x.0 == y.0) ≡ true → is_up past x ≡ is_up past y
-same_up past x y e =
-    let same : x.0 ≡ y.0 = eqb-true x.0 y.0 e in
-    ap (λ n. is_up past (record { 0 = n })) same
+same_up : (past : List Entry) (x y : InstNo) → (x.0 == y.0) ≡ true → is_up x.0 past ≡ is_up y.0 past
+same_up past x y e = ap (λ i. is_up i past) (eqb-true x.0 y.0 e)
 
 at_equal : (b u v d : Bool) → (b ≡ true → u ≡ v) → (b && not (d && not (not u))) ≡ (b && not (d && v))
 at_equal true true v d same = ap (λ x. not (d && x)) (same refl)
@@ -36,17 +36,17 @@ at_equal false u v d same = refl
 
 -- the end of an instance, which was looked up as down or not
 pub ended_in-end : (journal : List Entry) (waves : List (List (ℕ × Item))) (past : List Entry) (ended : InstNo) (bad : Bool) (current : ℕ) (is_down : Bool)
-    → is_down ≡ not (is_up past ended) → current_wave (is_done journal past (ended_in journal waves past)) 0 waves ≡ current
+    → is_down ≡ not (is_up ended.0 past) → current_wave (is_done journal past (ended_in journal waves past)) 0 waves ≡ current
     → (wave : ℕ) (down : Bool) (inst : InstNo) (before : Bool) → before ≡ ended_in journal waves past wave down inst
     → (before || ((ended.0 == inst.0) && not (down && not is_down) && (current == wave))) ≡ ended_in journal waves (Ended ended bad ∷ past) wave down inst
 ended_in-end journal waves past ended bad current is_down looked now wave down inst before same =
-    let up = at_equal (ended.0 == inst.0) (is_up past ended) (is_up past inst) down (same_up past ended inst) in
+    let up = at_equal (ended.0 == inst.0) (is_up ended.0 past) (is_up inst.0 past) down (same_up past ended inst) in
     rw (looked, same, now) (ap (λ b. ended_in journal waves past wave down inst || (b && (current == wave))) up)
 
 -- whether an instance is down after an entry
-pub is_down-more : (past : List Entry) (entry : Entry) (inst : InstNo) (old : Bool) → old ≡ not (is_up past inst)
-    → not (is_up_after entry inst (not old)) ≡ not (is_up (entry ∷ past) inst)
-is_down-more past entry inst old e = rw e (ap (λ b. not (is_up_after entry inst b)) (not_not (is_up past inst)))
+pub is_down-more : (past : List Entry) (entry : Entry) (i : ℕ) (old : Bool) → old ≡ not (is_up i past)
+    → not (up_after i entry (not old)) ≡ not (is_up i (entry ∷ past))
+is_down-more past entry i old e = rw e (ap (λ b. not (up_after i entry b)) (not_not (is_up i past)))
 
 -- what was found before stays
 pub or_stays : (a b c : Bool) → c ≡ (a || b) → a ≡ true → c ≡ true

@@ -1,24 +1,14 @@
--- Which lines are answered by the end of an instance. A past is the entries before a place of the journal, the newest first.
-use Rattle.std.specs.Prelude.{ℕ, ◌+◌, ◌-◌, Bool, true, false, not, ◌&&◌, ◌||◌, ◌==◌, if◌then◌else◌, List, [], ◌∷◌}
-use Rattle.std.specs.List.{list_any, list_all}
+-- Which lines are answered by the end of an instance.
+use Rattle.std.specs.Prelude.{ℕ, Bool, true, false, not, ◌&&◌, ◌||◌, ◌==◌, List, [], ◌∷◌}
+use Rattle.std.specs.List.{list_any}
 use Rattle.rac_nums.specs.declared.names.InstNo.{InstNo}
 use Rattle.row_model.specs.declared.entry.Entry.{Entry}
-use Rattle.row_model.specs.declared.entry.Entry.TheVariants.{Crashed, Ended, Up}
+use Rattle.row_model.specs.declared.entry.Entry.TheVariants.{Ended}
+use Rattle.row_model.specs.Past.{Past, is_up}
 use Rattle.script_text.specs.declared.item.Item.{Item}
 use Rattle.script_text.specs.declared.item.Item.TheVariants.{Session, CrashAfter, CrashMark, Start, Hold}
+use Rattle.script_text.specs.Lines.{current_wave}
 use Rattle.run_report.specs.Answers.{answers}
-
--- Whether an instance is up after an entry, by whether it was up before.
-abbrev pub is_up_after : Entry → InstNo → Bool → Bool
-is_up_after (Crashed _ lost) inst up = if lost.0 == inst.0 then false else up
-is_up_after (Ended lost _) inst up = if lost.0 == inst.0 then false else up
-is_up_after (Up _ started) inst up = if started.0 == inst.0 then true else up
-is_up_after _ inst up = up
-
--- An instance is up where it was never lost, or came up after its last loss.
-abbrev pub is_up : List Entry → InstNo → Bool
-is_up [] inst = true
-is_up (entry ∷ past) inst = is_up_after entry inst (is_up past inst)
 
 -- A session or hold line has no answer; every other line is to be answered.
 abbrev pub is_asked : Item → Bool
@@ -26,37 +16,34 @@ is_asked (Session _ _) = false
 is_asked (Hold _ _) = false
 is_asked _ = true
 
--- Whether an end answers a line: that of its instance in its wave, and for a start line one that found the instance down.
--- `ended wave down inst` says whether the instance ended in the wave, where `down` holds as one that wasn't up.
+-- Whether an end answers a line: that of its instance in its wave, and for a start line one that found the instance
+-- down. `ended wave down inst` says whether the instance ended in the wave, where `down` holds as one that wasn't up.
 abbrev pub is_ended : (ℕ → Bool → InstNo → Bool) → ℕ → Item → Bool
 is_ended ended wave (CrashAfter inst _ _) = ended wave false inst
 is_ended ended wave (CrashMark inst _) = ended wave false inst
 is_ended ended wave (Start inst) = ended wave true inst
 is_ended ended wave _ = false
 
--- A line is answered in a past by an entry there with its number or, where no entry of the journal has its number, by an end.
-abbrev pub is_answered : List Entry → List Entry → (ℕ → Bool → InstNo → Bool) → ℕ → ℕ × Item → Bool
+-- A line is answered in a past by an entry there with its number or, where no entry of the journal has its number, by
+-- an end.
+abbrev pub is_answered : List Entry → Past → (ℕ → Bool → InstNo → Bool) → ℕ → ℕ × Item → Bool
 is_answered journal past ended wave (line, item) =
     list_any (answers line) past || (not (list_any (answers line) journal) && is_ended ended wave item)
 
 -- Nothing is awaited of a line that is answered or isn't to be answered.
-abbrev pub is_done : List Entry → List Entry → (ℕ → Bool → InstNo → Bool) → ℕ → ℕ × Item → Bool
+abbrev pub is_done : List Entry → Past → (ℕ → Bool → InstNo → Bool) → ℕ → ℕ × Item → Bool
 is_done journal past ended wave line = not (is_asked line.1) || is_answered journal past ended wave line
-
--- The first wave, counted from `first`, that has a line which isn't done, else the last one.
-abbrev pub current_wave : (ℕ → ℕ × Item → Bool) → ℕ → List (List (ℕ × Item)) → ℕ
-current_wave done first [] = first - 1
-current_wave done first (wave ∷ waves) = if list_all (done first) wave then current_wave done (first + 1) waves else first
 
 -- Whether an entry is the end of an instance.
 abbrev pub ends : Entry → InstNo → Bool
 ends (Ended ended _) inst = ended.0 == inst.0
 ends _ inst = false
 
--- Whether an instance ended in a wave, where `down` holds as one that wasn't up. The wave of an end is the one that is current before it.
-abbrev pub ended_in : List Entry → List (List (ℕ × Item)) → List Entry → ℕ → Bool → InstNo → Bool
+-- Whether an instance ended in a wave, where `down` holds as one that wasn't up. The wave of an end is the one that is
+-- current before it.
+abbrev pub ended_in : List Entry → List (List (ℕ × Item)) → Past → ℕ → Bool → InstNo → Bool
 ended_in journal waves [] wave down inst = false
 ended_in journal waves (entry ∷ past) wave down inst =
     ended_in journal waves past wave down inst
-    || (ends entry inst && not (down && is_up past inst)
+    || (ends entry inst && not (down && is_up inst.0 past)
     && current_wave (is_done journal past (ended_in journal waves past)) 0 waves == wave)

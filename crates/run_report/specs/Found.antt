@@ -1,5 +1,6 @@
 -- What is found on the way through a journal.
-use Rattle.std.specs.Prelude.{◌≡◌, ℕ, ◌<◌, Bool, true, not, ◌&&◌, ◌||◌, ◌==◌, nat_lt, if◌then◌else◌, List, [], Option, take}
+use Rattle.std.specs.Prelude.{◌≡◌, ℕ, ◌<◌, Bool, true, not, ◌&&◌, ◌||◌, ◌==◌}
+use Rattle.std.specs.Prelude.{nat_lt, if◌then◌else◌, List, [], Option, take}
 use Rattle.std.specs.List.{list_any, list_all, slice_index_or}
 use Rattle.std.specs.Option.{option_map_or}
 use Rattle.script_text.specs.declared.item.Item.{Item}
@@ -15,8 +16,8 @@ has_pair pairs wave inst = list_any (λ pair. (wave == pair.0) && (inst == pair.
 abbrev pub kept : Ends → ℕ → Bool → InstNo → Bool
 kept ends wave down inst = has_pair (if down then ends.found_down.keys else ends.ended.keys) wave inst.0
 
--- A line is settled before a place where it is not to be answered, or where an entry or an end before the place answers it.
--- `first` says where the first entry with a line's number stands.
+-- A line is settled before a place where it is not to be answered, or where an entry or an end before the place
+-- answers it. `first` says where the first entry with a line's number stands.
 abbrev pub is_settled : (ℕ → Option ℕ) → ℕ → (ℕ → Bool → InstNo → Bool) → ℕ → ℕ × Item → Bool
 is_settled first at ended wave (line, item) =
     not (is_asked item) || option_map_or (λ place. nat_lt place at) (first line) (is_ended ended wave item)

@@ -1,11 +1,14 @@
 -- The lines that tell a journal, entry by entry.
-use Rattle.std.specs.Prelude.{ℕ, ◌<◌, ◌==◌, if◌then◌else◌, List, [], Option, Some, None, IfSome, codes, decimal, flat_map, length, slice_get, unwrap_or}
+use Rattle.std.specs.Prelude.{ℕ, ◌<◌, ◌==◌, if◌then◌else◌, List, [], IfSome, codes}
+use Rattle.std.specs.Prelude.{decimal, flat_map, length, slice_get, unwrap_or}
 use Rattle.std.specs.Int.{bit_at}
 use Rattle.std.specs.List.{range_with_len}
 use Rattle.std.specs.Option.{option_map_or}
 use Rattle.rac_nums.specs.Texts.{value_text, xid_text}
 use Rattle.row_model.specs.declared.entry.Entry.{Entry}
-use Rattle.row_model.specs.declared.entry.Entry.TheVariants.{Opened, Started, Rows, Changed, Locked, Marked, Committed, Acked, Undone, Rolled, Plain, Refused, Crashed, Ended, Recovered, Up, Moved, Checkpointed, NotDone}
+use Rattle.row_model.specs.declared.entry.Entry.TheVariants.{Opened, Started, Rows, Changed, Locked, Marked, Committed}
+use Rattle.row_model.specs.declared.entry.Entry.TheVariants.{Acked, Undone, Rolled, Plain, Refused, Crashed, Ended}
+use Rattle.row_model.specs.declared.entry.Entry.TheVariants.{Recovered, Up, Moved, Checkpointed, NotDone}
 use Rattle.script_text.specs.Lines.{session_in}
 use Rattle.script_text.specs.ScriptParts.{ScriptParts}
 use Rattle.run_report.specs.Texts.{◌⧺◌, rows_text, cause_text}
@@ -40,10 +43,13 @@ inst_text _ = []
 -- An entry that names a transaction, or one as above.
 abbrev pub xid_entry_text : Entry → List ℕ
 xid_entry_text (Changed stmt xid row found new) =
-    codes "changed " ⧺ decimal stmt ⧺ codes " " ⧺ xid_text xid ⧺ codes " " ⧺ decimal row.0 ⧺ codes " " ⧺ value_text found ⧺ codes " " ⧺ value_text new
-xid_entry_text (Locked stmt xid row) = codes "locked " ⧺ decimal stmt ⧺ codes " " ⧺ xid_text xid ⧺ codes " " ⧺ decimal row.0
+    codes "changed " ⧺ decimal stmt ⧺ codes " " ⧺ xid_text xid ⧺ codes " " ⧺ decimal row.0
+    ⧺ codes " " ⧺ value_text found ⧺ codes " " ⧺ value_text new
+xid_entry_text (Locked stmt xid row) =
+    codes "locked " ⧺ decimal stmt ⧺ codes " " ⧺ xid_text xid ⧺ codes " " ⧺ decimal row.0
 xid_entry_text (Marked stmt xid c) = codes "marked " ⧺ decimal stmt ⧺ codes " " ⧺ xid_text xid ⧺ codes " " ⧺ decimal c.0
-xid_entry_text (Committed xid c inst) = codes "committed " ⧺ xid_text xid ⧺ codes " " ⧺ decimal c.0 ⧺ codes " " ⧺ decimal inst.0
+xid_entry_text (Committed xid c inst) =
+    codes "committed " ⧺ xid_text xid ⧺ codes " " ⧺ decimal c.0 ⧺ codes " " ⧺ decimal inst.0
 xid_entry_text (Acked stmt xid c) = codes "acked " ⧺ decimal stmt ⧺ codes " " ⧺ xid_text xid ⧺ codes " " ⧺ decimal c.0
 xid_entry_text (Undone xid left) = codes "undone " ⧺ xid_text xid ⧺ codes " " ⧺ decimal left
 xid_entry_text (Rolled xid) = codes "rolled " ⧺ xid_text xid

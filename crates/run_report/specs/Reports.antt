@@ -1,5 +1,6 @@
 -- The report of a run.
-use Rattle.std.specs.Prelude.{ℕ, Bool, if◌then◌else◌, List, [], Option, Some, None, codes, decimal, find, flat_map, reverse}
+use Rattle.std.specs.Prelude.{ℕ, Bool, if◌then◌else◌, List, [], Option, Some}
+use Rattle.std.specs.Prelude.{None, codes, decimal, find, flat_map, reverse}
 use Rattle.std.specs.List.{enumerate_from}
 use Rattle.rac_nums.specs.declared.names.InstNo.{InstNo}
 use Rattle.row_model.specs.declared.entry.Entry.{Entry}
@@ -10,7 +11,8 @@ use Rattle.run_report.specs.Answers.{answer_text, answers}
 use Rattle.run_report.specs.Ends.{ended_in, is_ended}
 use Rattle.run_report.specs.Journals.{journal_line}
 
--- What is said of a line: what the first entry that answers it by its number says there or, where there is none, that an instance's end answers it.
+-- What is said of a line: what the first entry that answers it by its number says there or, where there is none, that
+-- an instance's end answers it.
 abbrev pub said : Item → Option Entry → Bool → Option (List ℕ)
 said item (Some entry) ended = answer_text item entry
 said item None ended = if ended then Some (codes "ended") else None
@@ -31,7 +33,8 @@ wave_text journal ended wave lines = flat_map (λ line. told line.0 (line_answer
 -- The lines of the waves that have an answer, in order.
 abbrev pub answers_text : List (List (ℕ × Item)) → List Entry → List ℕ
 answers_text waves journal =
-    flat_map (λ wave. wave_text journal (ended_in journal waves (reverse journal)) wave.0 wave.1) (enumerate_from 0 waves)
+    flat_map (λ wave. wave_text journal (ended_in journal waves (reverse journal)) wave.0 wave.1)
+    (enumerate_from 0 waves)
 
 -- The report tells the answers of the script's lines and then, where that is asked, each entry of the journal.
 abbrev pub report_text : ScriptParts → List Entry → Bool → List ℕ

@@ -5,7 +5,8 @@ use Rattle.rac_nums.specs.declared.names.RowNo.{RowNo}
 use Rattle.rac_nums.specs.declared.value.Value.{Value}
 use Rattle.rac_nums.specs.Texts.{value_text, xid_text}
 use Rattle.row_model.specs.declared.cause.Cause.{Cause}
-use Rattle.row_model.specs.declared.cause.Cause.TheVariants.{Busy, OldUndo, OldSlot, NoUndo, NoTxnSlot, NoItl, Overflow, NoSavepoint, Lost, NotConnected}
+use Rattle.row_model.specs.declared.cause.Cause.TheVariants.{Busy, OldUndo, OldSlot, NoUndo, NoTxnSlot, NoItl}
+use Rattle.row_model.specs.declared.cause.Cause.TheVariants.{Overflow, NoSavepoint, Lost, NotConnected}
 
 -- A text and then another: `++`, grouped to the right.
 infixr 8 ◌⧺◌

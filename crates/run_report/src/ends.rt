@@ -1,6 +1,6 @@
 ghost use Rattle.std.specs.Prelude.{◌≡◌, ℕ, ◌==◌, ◌&&◌, ◌||◌, Bool, true, false, not, OnOk};
 ghost use Rattle.rac_nums.specs.declared.names.InstNo.{InstNo};
-ghost use Rattle.run_report.specs.Ends.{is_asked, is_ended, is_up_after};
+ghost use Rattle.run_report.specs.Ends.{is_asked, is_ended};
 ghost use Rattle.run_report.specs.Found.{has_pair, kept};
 
 use rac_nums::{InstNo, NoMemory};

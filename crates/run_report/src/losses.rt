@@ -2,8 +2,9 @@ ghost use Rattle.std.specs.Prelude.{◌≡◌, ◌<◌, ◌^◌, ℕ, Bool, IfOk
 ghost use Rattle.std.specs.HashMap.{get};
 ghost use Rattle.std.specs.List.{position_from, slice_index_or};
 ghost use Rattle.rac_nums.specs.declared.names.InstNo.{InstNo};
+ghost use Rattle.row_model.specs.Past.{up_after};
 ghost use Rattle.run_report.specs.Answers.{answers};
-ghost use Rattle.run_report.specs.Ends.{ended_in, is_up_after};
+ghost use Rattle.run_report.specs.Ends.{ended_in};
 ghost use Rattle.run_report.specs.Found.{kept};
 
 use crate::ends::Ends;
@@ -54,8 +55,8 @@ fn none_down() -> [bool; 256]
 
 /// Notes by its number whether an instance is down after an entry.
 fn note_loss(down: &mut [bool; 256], entry: &Entry)
-    ensures { (inst : InstNo) → inst.0 < 256 →
-        slice_index_or down.new inst.0 false ≡ not (is_up_after entry.now inst (not (slice_index_or down.old inst.0 false))) }
+    ensures { (i : ℕ) → i < 256 →
+        slice_index_or down.new i false ≡ not (up_after i entry.now (not (slice_index_or down.old i false))) }
 {
     match entry {
         Entry::Crashed { inst, .. } | Entry::Ended { inst, .. } => down[inst.0 as usize] = true,

@@ -1,6 +1,6 @@
 -- What is read is well formed.
 use Rattle.std.proofs.Common.{◌≡◌, ℕ, ◌+◌, ◌<◌, ◌≤◌, Bool, true, false, not, ◌&&◌, List, [], ◌∷◌, ◌++◌, length, Result, Ok, Err, nat_lt, nat_le, is_none, refl, sym, ap, ◌∙◌, subst, arith, rules, append_assoc, append-nil, length-append, lit≤}
-use Rattle.std.proofs.lemmas.Bool.{leb-true, ltb-true}
+use Rattle.std.proofs.lemmas.Bool.{leb-true}
 use Rattle.std.proofs.lemmas.Bool.Decides.{nat_tests}
 use Rattle.std.specs.List.{list_any, position_or_len}
 use Rattle.std.specs.Str.{bytes_eq}
@@ -14,7 +14,7 @@ use Rattle.script_text.specs.declared.said.Said.{Said}
 use Rattle.script_text.specs.ScriptParts.{ScriptParts}
 use Rattle.script_text.specs.Words.{words}
 use Rattle.script_text.specs.Spelling.{number}
-use Rattle.script_text.specs.Forms.{Row, with_item, is_open, session_number, instances_so_far, go_line, instances_line, session_line, commit_line, get_line, put_line}
+use Rattle.script_text.specs.Forms.{with_item, is_open, session_number, instances_so_far, go_line, instances_line, session_line, commit_line, get_line, put_line}
 use Rattle.script_text.specs.Limits.{instance_limit, session_limit}
 use Rattle.script_text.specs.Rules.{counted, line_read}
 use Rattle.script_text.specs.Reading.{Refusal, joined, go_on, lines_read, nothing_said, script_of, whole, reading}

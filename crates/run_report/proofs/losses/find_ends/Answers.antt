@@ -1,7 +1,8 @@
 use Rattle.std.proofs.Common.{◌≡◌, ℕ, ◌<◌, Bool, false, take, reverse, get_or, nat_eq, arith, rules, take_all, refl, sym, ap, ◌∙◌}
 use Rattle.std.specs.HashMap.{get}
 use Rattle.rac_nums.specs.declared.names.InstNo.{InstNo}
-use Rattle.run_report.specs.Ends.{current_wave, ended_in, is_done}
+use Rattle.script_text.specs.Lines.{current_wave}
+use Rattle.run_report.specs.Ends.{ended_in, is_done}
 use Rattle.run_report.specs.Found.{is_settled, kept}
 use Rattle.run_report.proofs.Current.{current-is, current_wave-cong}
 use Rattle.run_report.proofs.EndSteps.{ended_in-end, ended_in-other, is_down-more, or_stays}
@@ -13,7 +14,7 @@ use Rattle.run_report.proofs.losses.find_ends.Goals.{in-Ended+in_ok-add, in_defa
 pub loop-at-init : goal.loop-at-init
 loop-at-init c = record {
   ends_found = λ wave down inst. c.new-ends.ensures wave down inst;
-  downs_known = λ inst small. c.none_down-down.ensures.none inst.0;
+  downs_known = λ i small. c.none_down-down.ensures.none i;
   lines_settled = record { earlier = λ w h. absurd (omega arith); here = refl };
 }
 
@@ -27,8 +28,8 @@ loop-at-preserved c =
     let held = c.loop-at.invariant in
     let first = get nat_eq c.args.places.now in
     let more = past-more journal at entry (omega arith) c.index-journal-at.is in
-    let downs_known = λ (inst : InstNo) (small : inst.0 < 256).
-    c.note_loss.ensures inst small ∙ is_down-more past entry inst (get_or c.loop-at.down inst.0 false) (held.downs_known inst small) in
+    let downs_known = λ (i : ℕ) (small : i < 256).
+    c.note_loss.ensures i small ∙ is_down-more past entry i (get_or c.loop-at.down i false) (held.downs_known i small) in
     elim c.match-entry.branch [
       | in-Ended+in_ok-add w ↦
           let ended = w.in-Ended.inst in
@@ -40,7 +41,7 @@ loop-at-preserved c =
           let current : current_wave (is_done journal past (ended_in journal waves past)) 0 waves ≡ w.wave_of-wave.result =
           sym same_done ∙ current-is _ waves cursor.wave cursor.line settled w.next_open-cursor.ensures.unsettled ∙ sym w.wave_of-wave.ensures in
           let step = λ (wave : ℕ) (down : Bool) (inst : InstNo).
-          added wave down inst ∙ ended_in-end journal waves past ended w.in-Ended.bad w.wave_of-wave.result _ (held.downs_known ended small) current wave down inst _ (held.ends_found wave down inst) in
+          added wave down inst ∙ ended_in-end journal waves past ended w.in-Ended.bad w.wave_of-wave.result _ (held.downs_known ended.0 small) current wave down inst _ (held.ends_found wave down inst) in
           let stays = is_settled-stays first at (kept c.loop-at.ends) (kept w.add.new.self) (λ wave down inst h. or_stays _ _ _ (added wave down inst) h) in
           record {
             ends_found = λ wave down inst. rw (more, w.ends-is, w.in-Ended.is) (step wave down inst);

@@ -2,7 +2,7 @@
 use Rattle.row_model.specs.Good.{RowsAreSeen, FoundIsSeen, CommitIsProper, AckIsProper, StartIsProper, RowIsFree}
 use Rattle.row_model.specs.History.{history}
 use Rattle.row_model.proofs.EachLemmas.{Each-to_places, Each-from_places}
-use Rattle.row_model.proofs.laws.rows_at_each_place.Goals as goal
+use Rattle.row_model.proofs.laws.clauses_hold_at_each_place.Goals as goal
 
 pub returns-clause-rows : goal.returns-clause-rows
 returns-clause-rows c asked journal =
