@@ -166,3 +166,42 @@ module _ (parts : ScriptParts) (done : List (ℕ × Item)) (node : Node) (n : �
   -- as the statement starts
   pub lost-started : IsGoodSoFar parts (lost (started node n 0) n).journal
   lost-started = so-far-lost parts (started node n 0).journal past n what (reverse_push node.journal (Started n 0 node.known)) asks later start named lined.lines good
+
+  -- with the own transaction
+  module _ (x : Xid) (own_is : node.own ≡ Some x) where
+    abbrev c : Scn
+    c = record { 0 = node.scn.0 + 1 }
+
+    own_new : (x.seg.0 ≡ 0) × (stood (is_commit x) past ≡ false)
+    own_new = rw own_is at proper.own_new
+
+    named-marked : All (λ e. IfSome (session_in e) (λ z. z < length parts.names)) (marked (started node n 0) n x).journal
+    named-marked = All-push (λ e. IfSome (session_in e) (λ z. z < length parts.names)) (started node n 0).journal (Marked n x c) named tt
+
+    past-marked : reverse (marked (started node n 0) n x).journal ≡ Marked n x c ∷ past
+    past-marked = rw (reverse_push (started node n 0).journal (Marked n x c), reverse_push node.journal (Started n 0 node.known)) refl
+
+    -- once it was marked
+    pub lost-marked : IsGoodSoFar parts (lost (marked (started node n 0) n x) n).journal
+    lost-marked =
+        so-far-lost parts (marked (started node n 0) n x).journal (Marked n x c ∷ past) n what past-marked asks later start named-marked ((tt, tt), lined.lines)
+        (good-marked (asked parts) past n x c own_new.1 good)
+
+    -- the state once the commit is answered
+    abbrev over : Parts
+    over = record (parts_of node) { scn = c.0; known = c.0; own = None; pending = []; ended = map (version_at c) (reverse node.pending) ++ reverse node.ended }
+
+    good-entered : GoodPast (asked parts) (Committed x c (record { 0 = 0 }) ∷ Marked n x c ∷ past)
+    good-entered =
+        good-unacked (asked parts) (Committed x c (record { 0 = 0 }) ∷ Marked n x c ∷ past) n x c
+        (good-past (asked parts) (Acked n x c ∷ Committed x c (record { 0 = 0 }) ∷ Marked n x c ∷ past) over
+        (Sound-committed (asked parts) 0 past (parts_of node) over n x c (record { 0 = 0 }) own_is refl refl refl refl refl refl (λ k. refl) sound)
+        (Proper-committed (asked parts) 0 past (parts_of node) over n x c (record { 0 = 0 }) own_is refl refl refl refl refl (λ k. refl) sound proper))
+
+    -- once its commit record is on the disk
+    pub lost-entered : IsGoodSoFar parts (lost (entered (marked (started node n 0) n x) x) n).journal
+    lost-entered =
+        so-far-lost parts (entered (marked (started node n 0) n x) x).journal (Committed x c (record { 0 = 0 }) ∷ Marked n x c ∷ past) n what
+        (rw (reverse_push (marked (started node n 0) n x).journal (Committed x c (record { 0 = 0 })), past-marked) refl) asks later start
+        (All-push (λ e. IfSome (session_in e) (λ z. z < length parts.names)) (marked (started node n 0) n x).journal (Committed x c (record { 0 = 0 })) named-marked tt)
+        ((tt, tt), ((tt, tt), lined.lines)) good-entered
