@@ -1,5 +1,5 @@
 -- Where a fault of the disk ended the instance in a statement, the journal is good so far.
-use Rattle.std.proofs.Common.{◌≡◌, ◌∙◌, ℕ, ◌+◌, ◌<◌, ◌≤◌, List, [], ◌∷◌, ◌++◌, All, Option, Some, None, IfSome, IsSome, true, false, is_some, length, map, reverse, refl, ap, arith}
+use Rattle.std.proofs.Common.{◌≡◌, ℕ, ◌+◌, ◌<◌, List, [], ◌∷◌, ◌++◌, All, Option, Some, None, IfSome, IsSome, true, false, is_some, length, map, reverse, refl, ap, arith}
 use Rattle.std.specs.Option.{option_and_then}
 use Rattle.std.proofs.lemmas.Bool.{eq-eqb}
 use Rattle.std.proofs.lemmas.List.Elements.{All-push}
@@ -24,7 +24,7 @@ use Rattle.script_text.specs.ScriptParts.{ScriptParts}
 use Rattle.script_text.specs.Lines.{session_in, stmt_in, stmt_at, last_answer}
 use Rattle.script_text.specs.GoodLines.{LineIsProper, Answers}
 use Rattle.plain_node.specs.declared.node.Node.{Node}
-use Rattle.plain_node.specs.Steps.{version_at, told, started}
+use Rattle.plain_node.specs.Steps.{version_at, started}
 use Rattle.plain_node.specs.Sound.{Parts, Sound, Proper, parts_of}
 use Rattle.plain_node.specs.Lined.{Lined, last_line, IsNext, IsRight}
 use Rattle.plain_node.specs.Lost.{marked, entered, lost, IsGoodSoFar}
@@ -55,6 +55,10 @@ refusal-answers parts z n past Commit = tt
 refusal-answers parts z n past Rollback = tt
 refusal-answers parts z n past (Savepoint name) = tt
 refusal-answers parts z n past (RollbackTo name) = tt
+
+-- the session that an entry names is one of the script's
+abbrev IsKnown : ScriptParts → Entry → Type 0
+IsKnown parts e = IfSome (session_in e) (λ z. z < length parts.names)
 
 module _ (rows_of : ℕ → Option Range) where
   -- what the state says of the journal
@@ -111,12 +115,12 @@ module _ (parts : ScriptParts) where
   -- the fault's two entries behind a journal in which the statement has started
   so-far-lost : (journal : List Entry) (past : Past) (n : ℕ) (what : Stmt) → reverse journal ≡ past
       → stmt_at parts n ≡ Some (0, what) → last_answer parts 0 past < n → IsSome (start_of n past)
-      → All (λ e. IfSome (session_in e) (λ z. z < length parts.names)) journal → Each (LineIsProper parts) past → GoodPast (asked parts) past
+      → All (IsKnown parts) journal → Each (LineIsProper parts) past → GoodPast (asked parts) past
       → IsGoodSoFar parts ((journal ++ Ended (record { 0 = 0 }) false ∷ []) ++ Refused n Lost ∷ [])
   so-far-lost journal past n what same asks later start named lines good =
       record {
-        named = All-push (λ e. IfSome (session_in e) (λ z. z < length parts.names)) (journal ++ Ended (record { 0 = 0 }) false ∷ []) (Refused n Lost)
-            (All-push (λ e. IfSome (session_in e) (λ z. z < length parts.names)) journal (Ended (record { 0 = 0 }) false) named tt) tt;
+        named = All-push (IsKnown parts) (journal ++ Ended (record { 0 = 0 }) false ∷ []) (Refused n Lost)
+            (All-push (IsKnown parts) journal (Ended (record { 0 = 0 }) false) named tt) tt;
         lines = rw all ((rw asks (later, start, refusal-answers parts 0 n (Ended (record { 0 = 0 }) false ∷ past) what), tt), ((tt, tt), lines));
         rows = rw all good2.rows;
         found = rw all good2.found;
@@ -160,8 +164,8 @@ module _ (parts : ScriptParts) (done : List (ℕ × Item)) (node : Node) (n : �
   start : IsSome (start_of n past)
   start = rw (eq-eqb n n refl) refl
 
-  named : All (λ e. IfSome (session_in e) (λ z. z < length parts.names)) (started node n 0).journal
-  named = All-push (λ e. IfSome (session_in e) (λ z. z < length parts.names)) node.journal (Started n 0 node.known) right.named next.names
+  named : All (IsKnown parts) (started node n 0).journal
+  named = All-push (IsKnown parts) node.journal (Started n 0 node.known) right.named next.names
 
   -- as the statement starts
   pub lost-started : IsGoodSoFar parts (lost (started node n 0) n).journal
@@ -175,8 +179,8 @@ module _ (parts : ScriptParts) (done : List (ℕ × Item)) (node : Node) (n : �
     own_new : (x.seg.0 ≡ 0) × (stood (is_commit x) past ≡ false)
     own_new = rw own_is at proper.own_new
 
-    named-marked : All (λ e. IfSome (session_in e) (λ z. z < length parts.names)) (marked (started node n 0) n x).journal
-    named-marked = All-push (λ e. IfSome (session_in e) (λ z. z < length parts.names)) (started node n 0).journal (Marked n x c) named tt
+    named-marked : All (IsKnown parts) (marked (started node n 0) n x).journal
+    named-marked = All-push (IsKnown parts) (started node n 0).journal (Marked n x c) named tt
 
     past-marked : reverse (marked (started node n 0) n x).journal ≡ Marked n x c ∷ past
     past-marked = rw (reverse_push (started node n 0).journal (Marked n x c), reverse_push node.journal (Started n 0 node.known)) refl
@@ -203,5 +207,5 @@ module _ (parts : ScriptParts) (done : List (ℕ × Item)) (node : Node) (n : �
     lost-entered =
         so-far-lost parts (entered (marked (started node n 0) n x) x).journal (Committed x c (record { 0 = 0 }) ∷ Marked n x c ∷ past) n what
         (rw (reverse_push (marked (started node n 0) n x).journal (Committed x c (record { 0 = 0 })), past-marked) refl) asks later start
-        (All-push (λ e. IfSome (session_in e) (λ z. z < length parts.names)) (marked (started node n 0) n x).journal (Committed x c (record { 0 = 0 })) named-marked tt)
+        (All-push (IsKnown parts) (marked (started node n 0) n x).journal (Committed x c (record { 0 = 0 })) named-marked tt)
         ((tt, tt), ((tt, tt), lined.lines)) good-entered
