@@ -109,12 +109,15 @@ names-below sessions instances rows (Session session inst) within = within.0
 names-below sessions instances rows (Statement session what) within = within.0
 names-below sessions instances rows _ within = tt
 
+rows-below-512 : (rows : ℕ) (what : Stmt) → rows ≤ 512 → HasRowsBelow rows what → HasRowsBelow 512 what
+rows-below-512 rows what few below = ?
+
 module _ (most sessions instances rows : ℕ) (numbers : most < 2 ^ 32) (few : sessions ≤ 1) (one : instances ≤ 1) where
   plain-item : (opened : ℕ) (item : Item) → IsItemWithin sessions instances rows item → IsOpened opened item → IsRead item → IsPlain (nat_lt 0 opened) item
   plain-item opened (Session session inst) within is read =
       (let h = within.0 in omega arith, (let h = within.1 in omega arith), le-ltb 0 opened (let h = within.0 in omega arith))
   plain-item opened (Statement session what) within is read =
-      (let h = within.0 in omega arith, lt-ltb 0 opened (omega arith), read)
+      (let h = within.0 in omega arith, lt-ltb 0 opened (omega arith), read, rows-below what within.1)
   plain-item opened (CrashAfter inst steps keep) within is read = read
   plain-item opened (CrashMark inst keep) within is read = read
   plain-item opened (Start inst) within is read = read

@@ -6,3 +6,4 @@ pub mod Runs
 pub mod Lined
 pub mod Logged
 pub mod Lost
+pub mod Engine

@@ -1,0 +1,81 @@
+-- The node with its redo thread, over a disk.
+use Rattle.std.specs.Prelude.{◌≡◌, ℕ, ◌+◌, ◌*◌, ◌-◌, ◌^◌, ◌<◌, ◌≤◌, ◌⊎◌, List, [], ◌∷◌, ◌++◌, length, map, reverse, take, Option, IfSome}
+use Rattle.std.specs.List.{AllByRecursion}
+use Rattle.rac_nums.specs.declared.redo.Redo.{Redo}
+use Rattle.rac_io.specs.Counts.{Rose}
+use Rattle.rac_disk.specs.Calls.{WhereTold}
+use Rattle.rac_disk.specs.Disk.{DiskState, log_at, with_log}
+use Rattle.redo_record.specs.Redo.{IsRedo}
+use Rattle.redo_record.specs.Front.{IsTorn, log_bytes}
+use Rattle.redo_thread.specs.Thread.{ThreadState, end_of, forced}
+use Rattle.log_table.specs.LogHistory.{log_history}
+use Rattle.row_model.specs.declared.entry.Entry.{Entry}
+use Rattle.row_model.specs.History.{history}
+use Rattle.script_text.specs.declared.item.Item.{Item}
+use Rattle.plain_node.specs.declared.engine.Engine.{Engine}
+use Rattle.plain_node.specs.Logged.{Logged, line_of_commit}
+use Rattle.plain_node.specs.Runs.{CanRun}
+use Rattle.plain_node.specs.Sound.{parts_of}
+
+-- The first log has these bytes, and the others have none.
+pub record HoldsLog (it : DiskState) (bytes : List ℕ) : Type 0 where
+  pub first : log_at it 0 ≡ bytes
+  pub others : (thread : ℕ) → 0 < thread → thread < 8 → log_at it thread ≡ []
+
+-- These records are on the disk, and these wait in the thread's buffer.
+pub record IsWritten (disk : Option DiskState) (thread : ThreadState) (durable waits : List Redo) : Type 0 where
+  pub number : thread.number ≡ 0
+  pub place : thread.durable ≡ length (log_bytes durable)
+  pub waiting : thread.waiting ≡ log_bytes waits
+  pub told : IfSome disk (λ it. HoldsLog it (log_bytes durable))
+
+-- The records that the engine made are on the disk or wait, and say what its journal says.
+abbrev pub IsKept : Option DiskState → Engine → Type 0
+IsKept disk engine =
+    (durable : List Redo) × (waits : List Redo) × IsWritten disk engine.thread durable waits
+    × Logged durable waits (reverse engine.node.journal) (parts_of engine.node)
+
+-- the records of eight threads, of which the first alone has some
+abbrev pub of_first : List Redo → List (List Redo)
+of_first records = records ∷ [] ∷ [] ∷ [] ∷ [] ∷ [] ∷ [] ∷ [] ∷ []
+
+-- The whole records of the logs on the disk give the history of the journal again.
+pub record LogsTell (it : DiskState) (journal : List Entry) : Type 0 where
+  pub records : List Redo
+  pub rest : List ℕ
+  pub each : AllByRecursion IsRedo records
+  pub holds : HoldsLog it (log_bytes records ++ rest)
+  pub ends : (rest ≡ []) ⊎ IsTorn rest
+  pub tells : log_history (of_first records) ≡ map line_of_commit (reverse (history journal))
+
+-- the engine can run these lines next: each record has drawn an SCN, and has 236 bytes at most
+pub record CanGo (engine : Engine) (lines : List (ℕ × Item)) : Type 0 where
+  pub runs : CanRun engine.node lines
+  pub small : end_of engine.thread ≤ 236 * engine.node.scn.0
+
+-- The two counts of a disk's failed calls, before and after: one call failed at most, where neither count stands at
+-- its end.
+pub record IsOneFault (faults faults_now full full_now : ℕ) : Type 0 where
+  pub one : faults_now + full_now ≤ faults + full + 1
+  pub faults_below : faults_now < 2 ^ 64 - 1
+  pub full_below : full_now < 2 ^ 64 - 1
+
+-- no call failed
+abbrev pub IsCalm : ℕ → ℕ → ℕ → ℕ → Type 0
+IsCalm faults faults_now full full_now = (faults_now ≡ faults) × (full_now ≡ full)
+
+-- a call failed, and by one of the two counts
+abbrev pub FailedOnce : ℕ → ℕ → ℕ → ℕ → Type 0
+FailedOnce faults faults_now full full_now = (Rose faults faults_now × (full_now ≡ full)) ⊎ (Rose full full_now × (faults_now ≡ faults))
+
+-- Room was made in a thread's buffer: there was room, or all that waited was forced.
+abbrev pub MadeRoom : Option DiskState → ThreadState → Option DiskState → ThreadState → Type 0
+MadeRoom disk thread disk_now thread_now =
+    ((disk_now ≡ disk) × (thread_now ≡ thread))
+    ⊎ ((thread_now ≡ forced thread) × WhereTold disk disk_now (λ old new. new ≡ with_log old thread.number (log_at old thread.number ++ thread.waiting)))
+
+-- A force failed: some first bytes of what waited are in the log.
+abbrev pub MaySave : Option DiskState → Option DiskState → ThreadState → Type 0
+MaySave disk disk_now thread =
+    WhereTold disk disk_now (λ old new. (count : ℕ) × (count ≤ length thread.waiting)
+    × (new ≡ with_log old thread.number (log_at old thread.number ++ take count thread.waiting)))
