@@ -3,8 +3,7 @@
 
 mod engine;
 mod node;
-mod run;
 mod slots;
 mod versions;
 
-pub use run::run_script;
+pub use engine::{Engine, Stop};

@@ -130,7 +130,13 @@ impl Node {
     }
 
     /// Changes a row for a statement that started at `s`: the transaction, and what the row held.
-    pub fn change(&mut self, stmt: u32, s: Scn, row: RowNo, new: Value) -> Result<(Xid, Value), NoMemory>
+    pub fn change(
+        &mut self,
+        stmt: u32,
+        s: Scn,
+        row: RowNo,
+        new: Value,
+    ) -> Result<(Xid, Value), NoMemory>
         requires wraps { (k : ℕ) → k < 8 → wrap_at self.old.slots k + 1 < 2 ^ 32 }
         requires scn { self.old.scn.0 + 1 < 2 ^ 64 }
         ensures { IfOk result (λ told. (told.1 ≡ value_in self.old s.0 row.0)

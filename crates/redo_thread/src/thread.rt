@@ -89,7 +89,8 @@ impl RedoThread {
 
     /// The bytes of the records that aren't on the disk yet.
     pub fn waiting(&self) -> &[u8]
-        ensures { result.now ≡ self.now.waiting }
+        ensures bytes { result.now ≡ self.now.waiting }
+        ensures few { length self.now.waiting ≤ 65536 }
     {
         self.waiting.as_slice()
     }
