@@ -6,3 +6,4 @@ pub mod FitsLemmas
 pub mod ProperLemmas
 pub mod LinedLemmas
 pub mod LinedSteps
+pub mod LogLists
