@@ -7,3 +7,4 @@ pub mod ProperLemmas
 pub mod LinedLemmas
 pub mod LinedSteps
 pub mod LogLists
+pub mod LogLemmas
