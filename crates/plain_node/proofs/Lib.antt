@@ -8,3 +8,4 @@ pub mod LinedLemmas
 pub mod LinedSteps
 pub mod LogLists
 pub mod LogLemmas
+pub mod LogSteps

@@ -231,7 +231,7 @@ entered-last : (a : HistoryLine) (sorted : List HistoryLine) → AllByRecursion 
 entered-last a [] h = refl
 entered-last a (b ∷ sorted) h = rw (h.0, entered-last a sorted h.1) refl
 
-lines-first : (a : Commit) (older : List Commit) → map line_of_commit (reverse (a ∷ older)) ≡ map line_of_commit (reverse older) ++ line_of_commit a ∷ []
+pub lines-first : (a : Commit) (older : List Commit) → map line_of_commit (reverse (a ∷ older)) ≡ map line_of_commit (reverse older) ++ line_of_commit a ∷ []
 lines-first a older = ap (map line_of_commit) (reverse_first a older) ∙ map-append line_of_commit (reverse older) (a ∷ [])
 
 -- a history that falls gives its lines in order

@@ -1,0 +1,157 @@
+-- Each statement keeps the node's redo records in agreement with its journal.
+use Rattle.std.proofs.Common.{◌≡◌, ◌∙◌, ℕ, ◌+◌, ◌*◌, ◌/◌, ◌%◌, ◌<◌, ◌≤◌, List, [], ◌∷◌, ◌++◌, map, reverse, length, Bool, true, false, cond, Option, Some, None, IfSome, MatchOption, refl, ap, sym, subst, arith}
+use Rattle.std.specs.List.{filter_map, AllByRecursion}
+use Rattle.std.proofs.Math.Nat.{div-add-mod}
+use Rattle.std.proofs.lemmas.List.{append-nil, append_assoc}
+use Rattle.rac_nums.specs.declared.names.RowNo.{RowNo}
+use Rattle.rac_nums.specs.declared.names.Xid.{Xid}
+use Rattle.rac_nums.specs.declared.names.Scn.{Scn}
+use Rattle.rac_nums.specs.declared.redo.Redo.{Redo}
+use Rattle.rac_nums.specs.declared.value.Value.{Value}
+use Rattle.redo_record.specs.Redo.{IsRedo}
+use Rattle.plain_redo.specs.Records.{change_record, commit_record}
+use Rattle.log_table.specs.declared.line.HistoryLine.{HistoryLine}
+use Rattle.log_table.specs.LogHistory.{changes_in, is_step_back, line_of}
+use Rattle.row_model.specs.Past.{Past, same_xid}
+use Rattle.row_model.specs.Standing.{Change, changes_of, standing}
+use Rattle.row_model.specs.Stood.{stood, is_commit}
+use Rattle.row_model.specs.declared.entry.Entry.TheVariants.{Started, Changed, Marked, Committed, Acked}
+use Rattle.row_model.specs.Good.{Range}
+use Rattle.row_model.specs.History.{Commit, history_of_past}
+use Rattle.row_model.proofs.XidLemmas.{same_xid-refl, same_xid-true}
+use Rattle.plain_node.specs.declared.node.Node.{Node}
+use Rattle.plain_node.specs.declared.versions.Pending.{Pending}
+use Rattle.plain_node.specs.Logged.{Logged, WaitsFor, line_of_commit, lines_in, pair_in, pair_of}
+use Rattle.plain_node.specs.Runs.{IsSound, IsProper}
+use Rattle.plain_node.specs.Slots.{wrap_at, next_xid, IsLeastUsed}
+use Rattle.plain_node.specs.Sound.{Parts, Proper, Sound, parts_of, as_pending}
+use Rattle.plain_node.specs.Steps.{IsOwn, begun, changed, ended_by, started, value_in}
+use Rattle.plain_node.proofs.LogLists.{All-append, All-map, NoneBack, changes_for, changes_for-others, changes_in-more, lines-first, lines-more, reverse_first}
+use Rattle.plain_node.proofs.LogLemmas.{EndsPass-stood, Logged-started}
+use Rattle.plain_node.proofs.SoundLemmas.{history-committed, own_changes-own, wrap_at-ended}
+use Rattle.plain_node.proofs.StepLemmas.{pending-none, reverse_push, wrap_at-begun, wrap_at-taken}
+
+-- a change of x, which is the own transaction by then
+pub Logged-changed : (durable waits : List Redo) (past : Past) (old now : Parts) (n : ℕ) (x : Xid) (scn : Scn) (row : RowNo) (held found value : Value)
+    → IsRedo (change_record x scn row held value)
+    → changes_in (durable ++ waits) x ≡ reverse (map pair_in old.pending)
+    → stood (is_commit x) past ≡ false
+    → ((q : Xid) → old.own ≡ Some q → q ≡ x)
+    → now.own ≡ Some x → now.pending ≡ record { row = row; value = value } ∷ old.pending
+    → ((k : ℕ) → wrap_at old.slots k ≤ wrap_at now.slots k) → x.wrap ≤ wrap_at now.slots x.slot
+    → Logged durable waits past old
+    → Logged durable (waits ++ change_record x scn row held value ∷ []) (Changed n x row found value ∷ past) now
+Logged-changed durable waits past old now n x scn row held found value redo own_before new_x only own_is pending wraps used logged =
+    record {
+      each = rw joined (All-append IsRedo made (r ∷ []) logged.each (redo, tt));
+      lines = rw joined (lines-more (λ y. stood (is_commit y) past) made (r ∷ []) none (EndsPass-stood made past logged.lines) (new_x, tt)
+          ∙ (append-nil (lines_in made) ∙ logged.lines));
+      own = rw (joined, own_is, pending) (changes_in-more made (r ∷ []) x none
+          ∙ (ap (λ (cs : List (RowNo × Value)). cs ++ changes_for x (r ∷ [])) own_before
+          ∙ (ap (λ (cs : List (RowNo × Value)). reverse (map pair_in old.pending) ++ cs) one_change
+          ∙ sym (reverse_first (row, value) (map pair_in old.pending)))));
+      unused = λ y later. rw joined (changes_in-more made (r ∷ []) y none
+          ∙ (ap (λ (cs : List (RowNo × Value)). cs ++ changes_for y (r ∷ [])) (logged.unused y (let le = wraps y.slot in omega arith))
+          ∙ changes_for-others y (r ∷ []) (other y later, tt)));
+      waiting = All-append (WaitsFor now) waits (r ∷ []) (All-map (WaitsFor old) (WaitsFor now) waits still logged.waiting) ((refl, own_is), tt);
+      nothing_back = rw joined none;
+    }
+  where
+    r : Redo
+    r = change_record x scn row held value
+
+    made : List Redo
+    made = durable ++ waits
+
+    joined : durable ++ (waits ++ r ∷ []) ≡ made ++ r ∷ []
+    joined = sym (append_assoc durable waits (r ∷ []))
+
+    none : NoneBack (made ++ r ∷ [])
+    none = All-append (λ s. is_step_back s.kind ≡ false) made (r ∷ []) logged.nothing_back (refl, tt)
+
+    one_change : changes_for x (r ∷ []) ≡ (row, value) ∷ []
+    one_change = rw (same_xid-refl x) (ap (λ (k : ℕ). (let at : RowNo = record { 0 = k } in (at, value)) ∷ []) (div-add-mod row.0 8))
+
+    other : (y : Xid) → wrap_at now.slots y.slot < y.wrap → same_xid y x ≡ false
+    other y later = by_name (same_xid y x) refl
+      where
+        by_name : (b : Bool) → same_xid y x ≡ b → b ≡ false
+        by_name false is = refl
+        by_name true is = absurd (clash (same_xid-true y x is))
+          where
+            clash : y ≡ x → ⊥
+            clash e = let later2 : wrap_at now.slots x.slot < x.wrap = subst (λ (v : Xid). wrap_at now.slots v.slot < v.wrap) e later in omega arith
+
+    still : (q : Redo) → WaitsFor old q → WaitsFor now q
+    still q h = (h.0, own_is ∙ ap (λ (v : Xid). Some v) (sym (only q.xid h.1)))
+
+pairs : (changes : List Change) → map pair_of changes ≡ map pair_in (map as_pending changes)
+pairs [] = refl
+pairs (change ∷ changes) = ap (λ (ps : List (RowNo × Value)). pair_of change ∷ ps) (pairs changes)
+
+-- the record of a commit, once it is on the disk, tells the commit
+pub lines-committed : (asked : ℕ → Option Range) (durable waits : List Redo) (past : Past) (old : Parts) (n : ℕ) (x : Xid) (c : Scn)
+    → old.own ≡ Some x → c.0 ≡ old.scn + 1 → stood (is_commit x) past ≡ false → Sound asked 0 past old → Logged durable waits past old
+    → lines_in (durable ++ waits ++ commit_record x c ∷ []) ≡ map line_of_commit (reverse (history_of_past (Committed x c (record { 0 = 0 }) ∷ Marked n x c ∷ past)))
+lines-committed asked durable waits past old n x c own_is next new_x sound logged =
+    lines-more (λ y. stood (is_commit y) past) made (r ∷ []) none (EndsPass-stood made past logged.lines) (new_x, tt)
+    ∙ (ap (λ (ls : List HistoryLine). ls ++ line (changes_in (made ++ r ∷ []) x) ∷ []) logged.lines
+    ∙ (ap (λ (cs : List (RowNo × Value)). map line_of_commit (reverse commits) ++ line cs ∷ []) changes
+    ∙ sym (ap (λ (ks : List Commit). map line_of_commit (reverse ks)) history ∙ lines-first a commits)))
+  where
+    r : Redo
+    r = commit_record x c
+
+    made : List Redo
+    made = durable ++ waits
+
+    commits : List Commit
+    commits = history_of_past past
+
+    a : Commit
+    a = record { c = c.0; inst = 0; xid = x; changes = changes_of (standing x past) }
+
+    line : List (RowNo × Value) → HistoryLine
+    line cs = record { c = c; inst = record { 0 = 0 }; xid = x; changes = cs }
+
+    none : NoneBack (made ++ r ∷ [])
+    none = All-append (λ s. is_step_back s.kind ≡ false) made (r ∷ []) logged.nothing_back (refl, tt)
+
+    history : history_of_past (Committed x c (record { 0 = 0 }) ∷ Marked n x c ∷ past) ≡ a ∷ commits
+    history = history-committed asked 0 past n x c (record { 0 = 0 }) old.known sound.commits (let le = sound.clock in omega arith)
+
+    stand : map as_pending (changes_of (standing x past)) ≡ old.pending
+    stand = ap (map as_pending) (sym (own_changes-own asked 0 past x (sound.own_is ∙ own_is))) ∙ sound.pending
+
+    changes : changes_in (made ++ r ∷ []) x ≡ reverse (map pair_of (changes_of (standing x past)))
+    changes =
+        changes_in-more made (r ∷ []) x none
+        ∙ (append-nil (changes_in made x)
+        ∙ ((rw own_is at logged.own)
+        ∙ ap reverse (sym (pairs (changes_of (standing x past)) ∙ ap (map pair_in) stand))))
+
+-- the own transaction commits
+pub Logged-committed : (asked : ℕ → Option Range) (durable waits : List Redo) (past : Past) (old now : Parts) (n : ℕ) (x : Xid) (c : Scn)
+    → IsRedo (commit_record x c) → old.own ≡ Some x → c.0 ≡ old.scn + 1 → stood (is_commit x) past ≡ false
+    → now.own ≡ None → ((k : ℕ) → wrap_at now.slots k ≡ wrap_at old.slots k)
+    → Sound asked 0 past old → Logged durable waits past old
+    → Logged (durable ++ waits ++ commit_record x c ∷ []) [] (Acked n x c ∷ Committed x c (record { 0 = 0 }) ∷ Marked n x c ∷ past) now
+Logged-committed asked durable waits past old now n x c redo own_is next new_x none_now wraps sound logged =
+    record {
+      each = rw (append-nil (made ++ r ∷ [])) (All-append IsRedo made (r ∷ []) logged.each (redo, tt));
+      lines = rw (append-nil (made ++ r ∷ [])) (lines-committed asked durable waits past old n x c own_is next new_x sound logged);
+      own = rw none_now tt;
+      unused = λ y later. rw (append-nil (made ++ r ∷ [])) (changes_in-more made (r ∷ []) y none
+          ∙ (append-nil (changes_in made y) ∙ logged.unused y (rw wraps at later)));
+      waiting = tt;
+      nothing_back = rw (append-nil (made ++ r ∷ [])) none;
+    }
+  where
+    r : Redo
+    r = commit_record x c
+
+    made : List Redo
+    made = durable ++ waits
+
+    none : NoneBack (made ++ r ∷ [])
+    none = All-append (λ s. is_step_back s.kind ≡ false) made (r ∷ []) logged.nothing_back (refl, tt)
