@@ -155,3 +155,98 @@ Logged-committed asked durable waits past old now n x c redo own_is next new_x n
 
     none : NoneBack (made ++ r ∷ [])
     none = All-append (λ s. is_step_back s.kind ≡ false) made (r ∷ []) logged.nothing_back (refl, tt)
+
+module _ (asked : ℕ → Option Range) (durable waits : List Redo) where
+  -- a change by x, told on a node where x is the own transaction by then
+  change-logged : (old mid : Node) (n : ℕ) (x : Xid) (row : RowNo) (held found value : Value)
+      → IsRedo (change_record x (changed mid n x row found value).scn row held value)
+      → mid.journal ≡ (started old n 0).journal → mid.pending ≡ old.pending → mid.own ≡ Some x
+      → changes_in (durable ++ waits) x ≡ reverse (map pair_in (reverse old.pending))
+      → stood (is_commit x) (reverse old.journal) ≡ false
+      → ((q : Xid) → old.own ≡ Some q → q ≡ x)
+      → ((k : ℕ) → wrap_at old.slots k ≤ wrap_at mid.slots k) → x.wrap ≤ wrap_at mid.slots x.slot
+      → Logged durable waits (reverse old.journal) (parts_of old)
+      → Logged durable (waits ++ change_record x (changed mid n x row found value).scn row held value ∷ [])
+      (reverse (changed mid n x row found value).journal) (parts_of (changed mid n x row found value))
+  change-logged old mid n x row held found value redo journal pending own_is own_before new_x only wraps used logged =
+      rw (journal, reverse_push (started old n 0).journal (Changed n x row found value), reverse_push old.journal (Started n 0 old.known))
+      (Logged-changed durable waits (Started n 0 old.known ∷ reverse old.journal) (parts_of old) (parts_of (changed mid n x row found value))
+      n x (changed mid n x row found value).scn row held found value redo own_before new_x only own_is
+      (reverse_push mid.pending (record { row = row; value = value }) ∙ ap (λ (ps : List Pending). record { row = row; value = value } ∷ reverse ps) pending)
+      wraps used (Logged-started durable waits (reverse old.journal) (parts_of old) n 0 old.known logged))
+
+  put-open : (old mid : Node) (n : ℕ) (x : Xid) (row : RowNo) (held found value : Value) (y : Xid) → old.own ≡ Some y → x ≡ y → mid ≡ started old n 0
+      → IsRedo (change_record x (changed mid n x row found value).scn row held value)
+      → IsSound asked old → IsProper old → Logged durable waits (reverse old.journal) (parts_of old)
+      → Logged durable (waits ++ change_record x (changed mid n x row found value).scn row held value ∷ [])
+      (reverse (changed mid n x row found value).journal) (parts_of (changed mid n x row found value))
+  put-open old mid n x row held found value y is same mid_is redo sound proper logged =
+      change-logged old mid n x row held found value redo (ap (λ (node : Node). node.journal) mid_is) (ap (λ (node : Node). node.pending) mid_is)
+      (ap (λ (node : Node). node.own) mid_is ∙ is_x) (rw is_x at logged.own) (rw is_x at proper.own_new).1
+      (λ q h. some_is q (sym h ∙ is_x)) (λ k. let e = slots in rw e (omega arith)) (rw slots (rw is_x at sound.own_used).1) logged
+    where
+      is_x : old.own ≡ Some x
+      is_x = is ∙ ap (λ (v : Xid). Some v) (sym same)
+
+      slots : mid.slots ≡ old.slots
+      slots = ap (λ (node : Node). node.slots) mid_is
+
+      some_is : (q : Xid) → ◌≡◌ {A = Option Xid} (Some q) (Some x) → q ≡ x
+      some_is q e = (cc)
+
+  put-first : (old mid : Node) (n : ℕ) (x : Xid) (row : RowNo) (held found value : Value) (k : ℕ) → old.own ≡ None → k < length old.slots
+      → x ≡ next_xid old.slots k → mid ≡ begun (started old n 0) k
+      → IsRedo (change_record x (changed mid n x row found value).scn row held value)
+      → IsSound asked old → IsProper old → Logged durable waits (reverse old.journal) (parts_of old)
+      → Logged durable (waits ++ change_record x (changed mid n x row found value).scn row held value ∷ [])
+      (reverse (changed mid n x row found value).journal) (parts_of (changed mid n x row found value))
+  put-first old mid n x row held found value k is within x_is mid_is redo sound proper logged =
+      change-logged old mid n x row held found value redo (ap (λ (node : Node). node.journal) mid_is) (ap (λ (node : Node). node.pending) mid_is)
+      (ap (λ (node : Node). node.own) mid_is ∙ ap (λ (v : Xid). Some v) (sym x_is))
+      (logged.unused x later ∙ ap (λ (ps : List Pending). reverse (map pair_in ps)) (pending-none asked old is sound))
+      (proper.unused x later)
+      (λ q h. absurd (none_some q (sym is ∙ h)))
+      (λ j. rw mid_is (wrap_at-begun asked (started old n 0) k j within))
+      (rw (mid_is, x_is) (let e = wrap_at-taken asked (started old n 0) k within in omega arith)) logged
+    where
+      later : wrap_at old.slots x.slot < x.wrap
+      later = rw x_is (omega arith)
+
+      none_some : (q : Xid) → ◌≡◌ {A = Option Xid} None (Some q) → ⊥
+      none_some q e = (cc)
+
+  put-by : (old mid : Node) (n : ℕ) (x : Xid) (row : RowNo) (held found value : Value) (o : Option Xid) → old.own ≡ o
+      → MatchOption o ((k : ℕ) × IsLeastUsed old.slots k × (x ≡ next_xid old.slots k) × (mid ≡ begun (started old n 0) k)) (λ y. (x ≡ y) × (mid ≡ started old n 0))
+      → IsRedo (change_record x (changed mid n x row found value).scn row held value)
+      → IsSound asked old → IsProper old → Logged durable waits (reverse old.journal) (parts_of old)
+      → Logged durable (waits ++ change_record x (changed mid n x row found value).scn row held value ∷ [])
+      (reverse (changed mid n x row found value).journal) (parts_of (changed mid n x row found value))
+  put-by old mid n x row held found value None is h = put-first old mid n x row held found value h.0 is h.1.within h.2 h.3
+  put-by old mid n x row held found value (Some y) is h = put-open old mid n x row held found value y is h.0 h.1
+
+  -- a put is answered, and its record waits; `held` is what the record says of the row before
+  pub Logged-put : (old mid now : Node) (n : ℕ) (x : Xid) (row : RowNo) (held found value : Value)
+      → IsOwn (started old n 0) x mid → now ≡ changed mid n x row found value
+      → IsRedo (change_record x now.scn row held value)
+      → IsSound asked old → IsProper old → Logged durable waits (reverse old.journal) (parts_of old)
+      → Logged durable (waits ++ change_record x now.scn row held value ∷ []) (reverse now.journal) (parts_of now)
+  Logged-put old mid now n x row held found value own_is is redo sound proper logged =
+      rw is (put-by old mid n x row held found value old.own refl own_is (rw is at redo) sound proper logged)
+
+  -- the open transaction's commit is answered, and its record is on the disk with all that waited
+  pub Logged-ended : (old : Node) (n : ℕ) (x : Xid) → old.own ≡ Some x → length old.slots ≡ 8
+      → IsRedo (commit_record x (record { 0 = old.scn.0 + 1 }))
+      → IsSound asked old → IsProper old → Logged durable waits (reverse old.journal) (parts_of old)
+      → Logged (durable ++ waits ++ commit_record x (record { 0 = old.scn.0 + 1 }) ∷ []) [] (reverse (ended_by old n x).journal) (parts_of (ended_by old n x))
+  Logged-ended old n x is eight redo sound proper logged =
+      rw (
+        reverse_push ((old.journal ++ Marked n x c ∷ []) ++ Committed x c (record { 0 = 0 }) ∷ []) (Acked n x c),
+        reverse_push (old.journal ++ Marked n x c ∷ []) (Committed x c (record { 0 = 0 })),
+        reverse_push old.journal (Marked n x c),
+      )
+      (Logged-committed asked durable waits (reverse old.journal) (parts_of old) (parts_of (ended_by old n x)) n x c redo is refl
+      (rw is at proper.own_new).1 refl
+      (λ k. wrap_at-ended asked 0 old.slots x.slot k c (let used = (rw is at sound.own_used).0 in omega arith)) sound logged)
+    where
+      c : Scn
+      c = record { 0 = old.scn.0 + 1 }
