@@ -1,23 +1,25 @@
 -- Each statement keeps the node's redo records in agreement with its journal.
-use Rattle.std.proofs.Common.{◌≡◌, ◌∙◌, ℕ, ◌+◌, ◌*◌, ◌/◌, ◌%◌, ◌<◌, ◌≤◌, List, [], ◌∷◌, ◌++◌, map, reverse, length, Bool, true, false, cond, Option, Some, None, IfSome, MatchOption, refl, ap, sym, subst, arith}
+use Rattle.std.proofs.Common.{◌≡◌, ◌∙◌, ℕ, ◌+◌, ◌*◌, ◌/◌, ◌%◌, ◌<◌, ◌≤◌, List, [], ◌∷◌, ◌++◌, map, reverse, length, take, zero, suc, ◌⊎◌, inl, inr, Bool, true, false, cond, Option, Some, None, IfSome, MatchOption, refl, ap, sym, subst, arith}
 use Rattle.std.specs.List.{filter_map, AllByRecursion}
 use Rattle.std.proofs.Math.Nat.{div-add-mod}
-use Rattle.std.proofs.lemmas.List.{append-nil, append_assoc}
+use Rattle.std.proofs.lemmas.List.{append-nil, append_assoc, take_all}
 use Rattle.rac_nums.specs.declared.names.RowNo.{RowNo}
 use Rattle.rac_nums.specs.declared.names.Xid.{Xid}
+use Rattle.rac_nums.specs.declared.names.InstNo.{InstNo}
 use Rattle.rac_nums.specs.declared.names.Scn.{Scn}
 use Rattle.rac_nums.specs.declared.redo.Redo.{Redo}
 use Rattle.rac_nums.specs.declared.value.Value.{Value}
 use Rattle.redo_record.specs.Redo.{IsRedo}
 use Rattle.plain_redo.specs.Records.{change_record, commit_record}
 use Rattle.log_table.specs.declared.line.HistoryLine.{HistoryLine}
-use Rattle.log_table.specs.LogHistory.{changes_in, is_step_back, line_of}
+use Rattle.log_table.specs.LogHistory.{changes_in, is_step_back, line_of, log_history}
 use Rattle.row_model.specs.Past.{Past, same_xid}
 use Rattle.row_model.specs.Standing.{Change, changes_of, standing}
 use Rattle.row_model.specs.Stood.{stood, is_commit}
-use Rattle.row_model.specs.declared.entry.Entry.TheVariants.{Started, Changed, Marked, Committed, Acked}
-use Rattle.row_model.specs.Good.{Range}
-use Rattle.row_model.specs.History.{Commit, history_of_past}
+use Rattle.row_model.specs.declared.entry.Entry.TheVariants.{Opened, Started, Rows, Plain, Changed, Marked, Committed, Acked, Ended, Refused}
+use Rattle.row_model.specs.declared.cause.Cause.TheVariants.{Lost}
+use Rattle.row_model.specs.Good.{Range, listed}
+use Rattle.row_model.specs.History.{Commit, history, history_of_past}
 use Rattle.row_model.proofs.XidLemmas.{same_xid-refl, same_xid-true}
 use Rattle.plain_node.specs.declared.node.Node.{Node}
 use Rattle.plain_node.specs.declared.versions.Pending.{Pending}
@@ -25,11 +27,12 @@ use Rattle.plain_node.specs.Logged.{Logged, WaitsFor, line_of_commit, lines_in, 
 use Rattle.plain_node.specs.Runs.{IsSound, IsProper}
 use Rattle.plain_node.specs.Slots.{wrap_at, next_xid, IsLeastUsed}
 use Rattle.plain_node.specs.Sound.{Parts, Proper, Sound, parts_of, as_pending}
-use Rattle.plain_node.specs.Steps.{IsOwn, begun, changed, ended_by, started, value_in}
-use Rattle.plain_node.proofs.LogLists.{All-append, All-map, NoneBack, changes_for, changes_for-others, changes_in-more, lines-first, lines-more, reverse_first}
-use Rattle.plain_node.proofs.LogLemmas.{EndsPass-stood, Logged-started}
+use Rattle.plain_node.specs.Steps.{IsOwn, begun, changed, ended_by, got, opened, started, told, value_in}
+use Rattle.plain_node.specs.Lost.{entered, lost, marked}
+use Rattle.plain_node.proofs.LogLists.{All-append, All-map, All-second, Falls-history, NoneBack, log_history-of_one, changes_for, changes_for-others, changes_in-more, lines-first, lines-more, reverse_first}
+use Rattle.plain_node.proofs.LogLemmas.{EndsPass-stood, Logged-opened, Logged-plain, Logged-rows, Logged-started, logs-tell}
 use Rattle.plain_node.proofs.SoundLemmas.{history-committed, own_changes-own, wrap_at-ended}
-use Rattle.plain_node.proofs.StepLemmas.{pending-none, reverse_push, wrap_at-begun, wrap_at-taken}
+use Rattle.plain_node.proofs.StepLemmas.{IsSound-started, pending-none, reverse_push, wrap_at-begun, wrap_at-taken}
 
 -- a change of x, which is the own transaction by then
 pub Logged-changed : (durable waits : List Redo) (past : Past) (old now : Parts) (n : ℕ) (x : Xid) (scn : Scn) (row : RowNo) (held found value : Value)
@@ -156,6 +159,12 @@ Logged-committed asked durable waits past old now n x c redo own_is next new_x n
     none : NoneBack (made ++ r ∷ [])
     none = All-append (λ s. is_step_back s.kind ≡ false) made (r ∷ []) logged.nothing_back (refl, tt)
 
+-- a fault adds no commit
+pub history-lost : (node : Node) (n : ℕ) → history (lost node n).journal ≡ history node.journal
+history-lost node n =
+    ap history_of_past (reverse_push (node.journal ++ Ended (record { 0 = 0 }) false ∷ []) (Refused n Lost))
+    ∙ ap history_of_past (reverse_push node.journal (Ended (record { 0 = 0 }) false))
+
 module _ (asked : ℕ → Option Range) (durable waits : List Redo) where
   -- a change by x, told on a node where x is the own transaction by then
   change-logged : (old mid : Node) (n : ℕ) (x : Xid) (row : RowNo) (held found value : Value)
@@ -225,28 +234,138 @@ module _ (asked : ℕ → Option Range) (durable waits : List Redo) where
   put-by old mid n x row held found value (Some y) is h = put-open old mid n x row held found value y is h.0 h.1
 
   -- a put is answered, and its record waits; `held` is what the record says of the row before
-  pub Logged-put : (old mid now : Node) (n : ℕ) (x : Xid) (row : RowNo) (held found value : Value)
+  pub IsLogged-put : (old mid now : Node) (n : ℕ) (x : Xid) (row : RowNo) (held found value : Value)
       → IsOwn (started old n 0) x mid → now ≡ changed mid n x row found value
       → IsRedo (change_record x now.scn row held value)
       → IsSound asked old → IsProper old → Logged durable waits (reverse old.journal) (parts_of old)
       → Logged durable (waits ++ change_record x now.scn row held value ∷ []) (reverse now.journal) (parts_of now)
-  Logged-put old mid now n x row held found value own_is is redo sound proper logged =
+  IsLogged-put old mid now n x row held found value own_is is redo sound proper logged =
       rw is (put-by old mid n x row held found value old.own refl own_is (rw is at redo) sound proper logged)
 
-  -- the open transaction's commit is answered, and its record is on the disk with all that waited
-  pub Logged-ended : (old : Node) (n : ℕ) (x : Xid) → old.own ≡ Some x → length old.slots ≡ 8
-      → IsRedo (commit_record x (record { 0 = old.scn.0 + 1 }))
-      → IsSound asked old → IsProper old → Logged durable waits (reverse old.journal) (parts_of old)
+  ended-logged : (old : Node) (n : ℕ) (x : Xid) → old.own ≡ Some x → length old.slots ≡ 8
+      → IsRedo (commit_record x (record { 0 = old.scn.0 + 1 })) → stood (is_commit x) (reverse old.journal) ≡ false
+      → IsSound asked old → Logged durable waits (reverse old.journal) (parts_of old)
       → Logged (durable ++ waits ++ commit_record x (record { 0 = old.scn.0 + 1 }) ∷ []) [] (reverse (ended_by old n x).journal) (parts_of (ended_by old n x))
-  Logged-ended old n x is eight redo sound proper logged =
+  ended-logged old n x is eight redo new_x sound logged =
       rw (
         reverse_push ((old.journal ++ Marked n x c ∷ []) ++ Committed x c (record { 0 = 0 }) ∷ []) (Acked n x c),
         reverse_push (old.journal ++ Marked n x c ∷ []) (Committed x c (record { 0 = 0 })),
         reverse_push old.journal (Marked n x c),
       )
       (Logged-committed asked durable waits (reverse old.journal) (parts_of old) (parts_of (ended_by old n x)) n x c redo is refl
-      (rw is at proper.own_new).1 refl
+      new_x refl
       (λ k. wrap_at-ended asked 0 old.slots x.slot k c (let used = (rw is at sound.own_used).0 in omega arith)) sound logged)
     where
       c : Scn
       c = record { 0 = old.scn.0 + 1 }
+
+  -- the session is opened
+  pub IsLogged-opened : (old : Node) (z : ℕ) (i : InstNo) → Logged durable waits (reverse old.journal) (parts_of old)
+      → Logged durable waits (reverse (opened old z i).journal) (parts_of (opened old z i))
+  IsLogged-opened old z i logged =
+      rw (reverse_push old.journal (Opened z i)) (Logged-opened durable waits (reverse old.journal) (parts_of old) (parts_of (opened old z i)) z i refl refl refl logged)
+
+  -- a statement starts
+  pub IsLogged-started : (old : Node) (n z : ℕ) → Logged durable waits (reverse old.journal) (parts_of old)
+      → Logged durable waits (reverse (started old n z).journal) (parts_of (started old n z))
+  IsLogged-started old n z logged =
+      rw (reverse_push old.journal (Started n z old.known)) (Logged-started durable waits (reverse old.journal) (parts_of old) n z old.known logged)
+
+  -- a get is answered
+  pub IsLogged-got : (old : Node) (n z : ℕ) (row : RowNo) → Logged durable waits (reverse old.journal) (parts_of old)
+      → Logged durable waits (reverse (got old n z row).journal) (parts_of (got old n z row))
+  IsLogged-got old n z row logged =
+      rw (reverse_push (started old n z).journal (Rows n rows))
+      (Logged-rows durable waits (reverse (started old n z).journal) (parts_of old) n rows (IsLogged-started old n z logged))
+    where
+      rows : List (RowNo × Value)
+      rows = listed (value_in old old.known.0) row.0 1
+
+  -- a commit is answered where no transaction is open
+  pub IsLogged-plain : (old : Node) (n z : ℕ) → Logged durable waits (reverse old.journal) (parts_of old)
+      → Logged durable waits (reverse (told (started old n z) (Plain n)).journal) (parts_of (told (started old n z) (Plain n)))
+  IsLogged-plain old n z logged =
+      rw (reverse_push (started old n z).journal (Plain n))
+      (Logged-plain durable waits (reverse (started old n z).journal) (parts_of old) n (IsLogged-started old n z logged))
+
+  new-started : (old : Node) (n : ℕ) (x : Xid) → old.own ≡ Some x → IsProper old → stood (is_commit x) (reverse (started old n 0).journal) ≡ false
+  new-started old n x is proper = rw (reverse_push old.journal (Started n 0 old.known)) (rw is at proper.own_new).1
+
+  -- a commit of the open transaction is answered, and its record is on the disk with all that waited
+  pub IsLogged-commit : (old : Node) (n : ℕ) (x : Xid) → old.own ≡ Some x → length old.slots ≡ 8
+      → IsRedo (commit_record x (record { 0 = old.scn.0 + 1 }))
+      → IsSound asked old → IsProper old → Logged durable waits (reverse old.journal) (parts_of old)
+      → Logged (durable ++ waits ++ commit_record x (record { 0 = old.scn.0 + 1 }) ∷ []) []
+      (reverse (ended_by (started old n 0) n x).journal) (parts_of (ended_by (started old n 0) n x))
+  IsLogged-commit old n x is eight redo sound proper logged =
+      ended-logged (started old n 0) n x is eight redo (new-started old n x is proper) (IsSound-started asked old n sound) (IsLogged-started old n 0 logged)
+
+  -- what a log tells in which the commit's record is the last
+  pub logs-tell-entered : (old : Node) (n : ℕ) (x : Xid) → old.own ≡ Some x → IsSound asked old → IsProper old
+      → Logged durable waits (reverse old.journal) (parts_of old)
+      → log_history ((durable ++ waits ++ commit_record x (record { 0 = old.scn.0 + 1 }) ∷ []) ∷ [] ∷ [] ∷ [] ∷ [] ∷ [] ∷ [] ∷ [] ∷ [])
+      ≡ map line_of_commit (reverse (history (entered (marked (started old n 0) n x) x).journal))
+  logs-tell-entered old n x is sound proper logged =
+      log_history-of_one (durable ++ waits ++ commit_record x c ∷ []) (history (entered (marked (started old n 0) n x) x).journal)
+      (rw (reverse_push (marked (started old n 0) n x).journal (Committed x c (record { 0 = 0 })), reverse_push (started old n 0).journal (Marked n x c))
+      (lines-committed asked durable waits (reverse (started old n 0).journal) (parts_of old) n x c is refl (new-started old n x is proper)
+      (IsSound-started asked old n sound) (IsLogged-started old n 0 logged)))
+      (Falls-history (reverse (entered (marked (started old n 0) n x) x).journal))
+    where
+      c : Scn
+      c = record { 0 = old.scn.0 + 1 }
+
+  -- the same after the fault that ends the instance then
+  pub logs-tell-lost-entered : (old : Node) (n : ℕ) (x : Xid) → old.own ≡ Some x → IsSound asked old → IsProper old
+      → Logged durable waits (reverse old.journal) (parts_of old)
+      → log_history ((durable ++ waits ++ commit_record x (record { 0 = old.scn.0 + 1 }) ∷ []) ∷ [] ∷ [] ∷ [] ∷ [] ∷ [] ∷ [] ∷ [] ∷ [])
+      ≡ map line_of_commit (reverse (history (lost (entered (marked (started old n 0) n x) x) n).journal))
+  logs-tell-lost-entered old n x is sound proper logged =
+      logs-tell-entered old n x is sound proper logged
+      ∙ ap (λ (ks : List Commit). map line_of_commit (reverse ks)) (sym (history-lost (entered (marked (started old n 0) n x) x) n))
+
+  -- what a log tells that has some of the records that wait, after a fault in a statement
+  pub logs-tell-lost-started : (old : Node) (n m : ℕ) → IsProper old → Logged durable waits (reverse old.journal) (parts_of old)
+      → log_history ((durable ++ take m waits) ∷ [] ∷ [] ∷ [] ∷ [] ∷ [] ∷ [] ∷ [] ∷ [])
+      ≡ map line_of_commit (reverse (history (lost (started old n 0) n).journal))
+  logs-tell-lost-started old n m proper logged =
+      logs-tell durable waits old m proper logged
+      ∙ ap (λ (ks : List Commit). map line_of_commit (reverse ks))
+      (sym (history-lost (started old n 0) n ∙ ap history_of_past (reverse_push old.journal (Started n 0 old.known))))
+
+  -- the same after a fault behind the mark of a commit
+  pub logs-tell-lost-marked : (old : Node) (n m : ℕ) (x : Xid) → IsProper old → Logged durable waits (reverse old.journal) (parts_of old)
+      → log_history ((durable ++ take m waits) ∷ [] ∷ [] ∷ [] ∷ [] ∷ [] ∷ [] ∷ [] ∷ [])
+      ≡ map line_of_commit (reverse (history (lost (marked (started old n 0) n x) n).journal))
+  logs-tell-lost-marked old n m x proper logged =
+      logs-tell durable waits old m proper logged
+      ∙ ap (λ (ks : List Commit). map line_of_commit (reverse ks))
+      (sym (history-lost (marked (started old n 0) n x) n
+      ∙ (ap history_of_past (reverse_push (started old n 0).journal (Marked n x (record { 0 = old.scn.0 + 1 })))
+      ∙ ap history_of_past (reverse_push old.journal (Started n 0 old.known)))))
+
+-- records that waited came to the disk
+pub Logged-flushed : (durable front back : List Redo) (past : Past) (node : Parts) → Logged durable (front ++ back) past node → Logged (durable ++ front) back past node
+Logged-flushed durable front back past node logged =
+    record {
+      each = rw joined logged.each;
+      lines = rw joined logged.lines;
+      own = rw joined logged.own;
+      unused = λ x later. rw joined (logged.unused x later);
+      waiting = All-second (WaitsFor node) front back logged.waiting;
+      nothing_back = rw joined logged.nothing_back;
+    }
+  where
+    joined : (durable ++ front) ++ back ≡ durable ++ (front ++ back)
+    joined = append_assoc durable front back
+
+-- some of the records of a commit are some of those before its own, or all
+pub fronts : (waits : List Redo) (r : Redo) (m : ℕ) → (take m (waits ++ r ∷ []) ≡ take m waits) ⊎ (take m (waits ++ r ∷ []) ≡ waits ++ r ∷ [])
+fronts waits r zero = inl refl
+fronts [] r (suc m) = inr (ap (λ (rs : List Redo). r ∷ rs) (take_all {A = Redo} m [] (omega arith)))
+fronts (q ∷ waits) r (suc m) = by_more (fronts waits r m)
+  where
+    by_more : (take m (waits ++ r ∷ []) ≡ take m waits) ⊎ (take m (waits ++ r ∷ []) ≡ waits ++ r ∷ [])
+        → (q ∷ take m (waits ++ r ∷ []) ≡ q ∷ take m waits) ⊎ (q ∷ take m (waits ++ r ∷ []) ≡ q ∷ (waits ++ r ∷ []))
+    by_more (inl e) = inl (ap (λ (rs : List Redo). q ∷ rs) e)
+    by_more (inr e) = inr (ap (λ (rs : List Redo). q ∷ rs) e)
