@@ -1,37 +1,26 @@
 -- The node's redo records say of commits what its journal says.
-use Rattle.std.proofs.Common.{◌≡◌, ◌∙◌, ℕ, ◌+◌, ◌*◌, ◌/◌, ◌%◌, ◌<◌, ◌≤◌, List, [], ◌∷◌, ◌++◌, map, reverse, length, take, drop, Bool, true, false, cond, Option, Some, None, IfSome, MatchOption, refl, ap, sym, subst, arith, ◌||◌}
-use Rattle.std.specs.List.{filter_map, list_any, AllByRecursion}
-use Rattle.std.specs.Option.{option_map}
-use Rattle.std.proofs.Math.Nat.{div-add-mod}
-use Rattle.std.proofs.lemmas.List.{append-nil, append_assoc, map-append, reverse-append, take-append-drop}
+use Rattle.std.proofs.Common.{◌≡◌, ◌∙◌, ℕ, List, [], ◌∷◌, ◌++◌, map, reverse, take, drop, Bool, true, false, Option, Some, None, IfSome, refl, ap, sym, ◌||◌}
+use Rattle.std.specs.List.{AllByRecursion}
+use Rattle.std.proofs.lemmas.List.{append-nil, append_assoc, take-append-drop}
 use Rattle.rac_nums.specs.declared.names.RowNo.{RowNo}
 use Rattle.rac_nums.specs.declared.names.Xid.{Xid}
 use Rattle.rac_nums.specs.declared.names.Scn.{Scn}
 use Rattle.rac_nums.specs.declared.names.InstNo.{InstNo}
 use Rattle.rac_nums.specs.declared.redo.Redo.{Redo}
 use Rattle.rac_nums.specs.declared.value.Value.{Value}
-use Rattle.redo_record.specs.Redo.{IsRedo}
-use Rattle.plain_redo.specs.Records.{change_record, commit_record}
 use Rattle.log_table.specs.declared.line.HistoryLine.{HistoryLine}
-use Rattle.log_table.specs.LogHistory.{changes_in, is_commit as ends, is_step_back, line_of, log_history}
-use Rattle.row_model.specs.Past.{Past, same_xid}
-use Rattle.row_model.specs.Standing.{Change, changes_of, standing}
+use Rattle.log_table.specs.LogHistory.{is_commit as ends, log_history}
+use Rattle.row_model.specs.Past.{Past}
 use Rattle.row_model.specs.Stood.{stood, is_commit}
 use Rattle.row_model.specs.declared.entry.Entry.{Entry}
-use Rattle.row_model.specs.declared.entry.Entry.TheVariants.{Opened, Started, Rows, Plain, Changed, Marked, Committed, Acked}
-use Rattle.row_model.specs.Good.{Range}
-use Rattle.row_model.specs.History.{Commit, entered, history, history_after, history_of_past, marked}
-use Rattle.row_model.proofs.XidLemmas.{same_xid-refl, same_xid-true}
+use Rattle.row_model.specs.declared.entry.Entry.TheVariants.{Opened, Started, Rows, Plain, Committed}
+use Rattle.row_model.specs.History.{Commit, history, history_after, history_of_past, marked}
+use Rattle.row_model.proofs.XidLemmas.{same_xid-refl}
 use Rattle.plain_node.specs.declared.node.Node.{Node}
-use Rattle.plain_node.specs.declared.versions.Pending.{Pending}
-use Rattle.plain_node.specs.Logged.{Logged, WaitsFor, line_of_commit, lines_in, pair_in, pair_of}
-use Rattle.plain_node.specs.Runs.{IsSound, IsProper}
-use Rattle.plain_node.specs.Slots.{wrap_at, next_xid, IsLeastUsed}
-use Rattle.plain_node.specs.Sound.{Parts, Proper, Sound, parts_of, as_pending}
-use Rattle.plain_node.specs.Steps.{Puts, begun, changed, ended_by, opened, started, told, value_in}
-use Rattle.plain_node.proofs.LogLists.{All-append, All-entered, All-first, All-map, All-mapped, All-reverse, All-second, EndsPass, EndsPass-lines, Falls-history, NoneBack, changes_for, changes_in-more, lines-more, lines-none, log_history-of_one, reverse_first}
-use Rattle.plain_node.proofs.SoundLemmas.{history-committed, own_changes-own, wrap_at-ended}
-use Rattle.plain_node.proofs.StepLemmas.{reverse_push, wrap_at-begun}
+use Rattle.plain_node.specs.Logged.{Logged, WaitsFor, line_of_commit, lines_in}
+use Rattle.plain_node.specs.Runs.{IsProper}
+use Rattle.plain_node.specs.Sound.{Parts, Proper, parts_of}
+use Rattle.plain_node.proofs.LogLists.{All-entered, All-first, All-map, All-mapped, All-reverse, All-second, EndsPass, EndsPass-lines, Falls-history, NoneBack, lines-more, lines-none, log_history-of_one}
 
 -- nothing is logged of a node that has done nothing
 pub Logged-none : (node : Parts) → node.own ≡ None → Logged [] [] [] node
@@ -132,7 +121,7 @@ lines-durable durable waits past node m logged own_new = sym more ∙ (ap lines_
 
     more : lines_in ((durable ++ take m waits) ++ drop m waits) ≡ lines_in (durable ++ take m waits)
     more = lines-more test (durable ++ take m waits) (drop m waits) none ends_pass
-            (All-map (WaitsFor node) (λ q. stood (is_commit q.xid) past ≡ false) (drop m waits) new waiting)
+        (All-map (WaitsFor node) (λ q. stood (is_commit q.xid) past ≡ false) (drop m waits) new waiting)
         ∙ (ap (λ (ls : List HistoryLine). lines_in (durable ++ take m waits) ++ ls)
         (lines-none ((durable ++ take m waits) ++ drop m waits) (drop m waits) (All-map (WaitsFor node) (λ q. ends q.kind ≡ false) (drop m waits) (λ q h. h.0) waiting))
         ∙ append-nil (lines_in (durable ++ take m waits)))

@@ -1,8 +1,8 @@
 -- What redo records say of transactions where none of them is a StepBack, and that a history falls.
-use Rattle.std.proofs.Common.{◌≡◌, ◌∙◌, ℕ, zero, ◌<◌, ◌≤◌, List, [], ◌∷◌, ◌++◌, map, reverse, Bool, true, false, cond, not, ltb, ◌&&◌, ◌||◌, ◌==◌, ◌⊎◌, ◌≢◌, inl, inr, Option, Some, None, refl, ap, sym, arith}
-use Rattle.std.specs.List.{filter_map, flat_map, list_any, AllByRecursion, cons_option}
+use Rattle.std.proofs.Common.{◌≡◌, ◌∙◌, ℕ, ◌≤◌, List, [], ◌∷◌, ◌++◌, map, reverse, Bool, true, false, cond, not, ltb, ◌&&◌, ◌||◌, ◌==◌, ◌⊎◌, ◌≢◌, inl, inr, Option, Some, None, refl, ap, sym, arith}
+use Rattle.std.specs.List.{filter_map, list_any, AllByRecursion, cons_option}
 use Rattle.std.specs.Option.{option_map}
-use Rattle.std.proofs.lemmas.List.{append-nil, append_assoc, map-append, reverse-append}
+use Rattle.std.proofs.lemmas.List.{append-nil, map-append, reverse-append}
 use Rattle.std.proofs.lemmas.List.Elements.{filter_map-append}
 use Rattle.std.proofs.lemmas.Bool.{le-ltb, ltb-false, ltb-true, eqb-true, eq-eqb}
 use Rattle.std.proofs.lemmas.Bool.Decides.{eqb_tells}
@@ -11,7 +11,7 @@ use Rattle.rac_nums.specs.declared.names.Xid.{Xid}
 use Rattle.rac_nums.specs.declared.redo.Redo.{Redo}
 use Rattle.rac_nums.specs.declared.value.Value.{Value}
 use Rattle.log_table.specs.declared.line.HistoryLine.{HistoryLine}
-use Rattle.log_table.specs.LogHistory.{change_in, changes_in, entered as line_entered, in_order, is_after, is_change, is_commit, is_step_back, line_of, lines_from, log_history, row_and_value, takes_back}
+use Rattle.log_table.specs.LogHistory.{change_in, changes_in, entered as line_entered, in_order, is_after, is_change, is_commit, is_step_back, line_of, log_history, row_and_value, takes_back}
 use Rattle.row_model.specs.Past.{Past, same_xid}
 use Rattle.row_model.specs.declared.entry.Entry.{Entry}
 use Rattle.row_model.specs.declared.entry.Entry.TheVariants.{Committed}

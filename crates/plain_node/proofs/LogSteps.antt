@@ -1,6 +1,5 @@
 -- Each statement keeps the node's redo records in agreement with its journal.
-use Rattle.std.proofs.Common.{◌≡◌, ◌∙◌, ℕ, ◌+◌, ◌*◌, ◌/◌, ◌%◌, ◌<◌, ◌≤◌, List, [], ◌∷◌, ◌++◌, map, reverse, length, take, zero, suc, ◌⊎◌, inl, inr, Bool, true, false, cond, Option, Some, None, IfSome, MatchOption, refl, ap, sym, subst, arith}
-use Rattle.std.specs.List.{filter_map, AllByRecursion}
+use Rattle.std.proofs.Common.{◌≡◌, ◌∙◌, ℕ, ◌+◌, ◌<◌, ◌≤◌, List, [], ◌∷◌, ◌++◌, map, reverse, length, take, zero, suc, ◌⊎◌, inl, inr, Bool, true, false, Option, Some, None, MatchOption, refl, ap, sym, subst, arith}
 use Rattle.std.proofs.Math.Nat.{div-add-mod}
 use Rattle.std.proofs.lemmas.List.{append-nil, append_assoc, take_all}
 use Rattle.rac_nums.specs.declared.names.RowNo.{RowNo}
@@ -12,7 +11,7 @@ use Rattle.rac_nums.specs.declared.value.Value.{Value}
 use Rattle.redo_record.specs.Redo.{IsRedo}
 use Rattle.plain_redo.specs.Records.{change_record, commit_record}
 use Rattle.log_table.specs.declared.line.HistoryLine.{HistoryLine}
-use Rattle.log_table.specs.LogHistory.{changes_in, is_step_back, line_of, log_history}
+use Rattle.log_table.specs.LogHistory.{changes_in, is_step_back, log_history}
 use Rattle.row_model.specs.Past.{Past, same_xid}
 use Rattle.row_model.specs.Standing.{Change, changes_of, standing}
 use Rattle.row_model.specs.Stood.{stood, is_commit}
@@ -26,11 +25,11 @@ use Rattle.plain_node.specs.declared.versions.Pending.{Pending}
 use Rattle.plain_node.specs.Logged.{Logged, WaitsFor, line_of_commit, lines_in, pair_in, pair_of}
 use Rattle.plain_node.specs.Runs.{IsSound, IsProper}
 use Rattle.plain_node.specs.Slots.{wrap_at, next_xid, IsLeastUsed}
-use Rattle.plain_node.specs.Sound.{Parts, Proper, Sound, parts_of, as_pending}
+use Rattle.plain_node.specs.Sound.{Parts, Sound, parts_of, as_pending}
 use Rattle.plain_node.specs.Steps.{IsOwn, begun, changed, ended_by, got, opened, started, told, value_in}
 use Rattle.plain_node.specs.Lost.{entered, lost, marked}
 use Rattle.plain_node.proofs.LogLists.{All-append, All-map, All-second, Falls-history, NoneBack, log_history-of_one, changes_for, changes_for-others, changes_in-more, lines-first, lines-more, reverse_first}
-use Rattle.plain_node.proofs.LogLemmas.{EndsPass-stood, Logged-opened, Logged-plain, Logged-rows, Logged-started, logs-tell}
+use Rattle.plain_node.proofs.LogLemmas.{EndsPass-stood, Logged-opened, Logged-plain, Logged-rows, Logged-started, lines-durable, logs-tell}
 use Rattle.plain_node.proofs.SoundLemmas.{history-committed, own_changes-own, wrap_at-ended}
 use Rattle.plain_node.proofs.StepLemmas.{IsSound-started, pending-none, reverse_push, wrap_at-begun, wrap_at-taken}
 
@@ -241,6 +240,59 @@ module _ (asked : ℕ → Option Range) (durable waits : List Redo) where
       → Logged durable (waits ++ change_record x now.scn row held value ∷ []) (reverse now.journal) (parts_of now)
   IsLogged-put old mid now n x row held found value own_is is redo sound proper logged =
       rw is (put-by old mid n x row held found value old.own refl own_is (rw is at redo) sound proper logged)
+
+  -- the transaction of a put has no commit yet, and is the own one by then
+  put-is_new : (old mid : Node) (n : ℕ) (x : Xid) (o : Option Xid) → old.own ≡ o
+      → MatchOption o ((k : ℕ) × IsLeastUsed old.slots k × (x ≡ next_xid old.slots k) × (mid ≡ begun (started old n 0) k)) (λ y. (x ≡ y) × (mid ≡ started old n 0))
+      → IsProper old → (mid.own ≡ Some x) × (mid.journal ≡ (started old n 0).journal) × (stood (is_commit x) (reverse old.journal) ≡ false)
+  put-is_new old mid n x None is h proper = (
+    ap (λ (node : Node). node.own) h.3 ∙ ap (λ (v : Xid). Some v) (sym h.2),
+    ap (λ (node : Node). node.journal) h.3,
+    proper.unused x (rw h.2 (omega arith)),
+  )
+  put-is_new old mid n x (Some y) is h proper =
+      (ap (λ (node : Node). node.own) h.1 ∙ is_x, ap (λ (node : Node). node.journal) h.1, (rw is_x at proper.own_new).1)
+    where
+      is_x : old.own ≡ Some x
+      is_x = is ∙ ap (λ (v : Xid). Some v) (sym h.0)
+
+  -- what a log tells that has some of the records that wait and of a put's, whether or not its change was told
+  pub logs-tell-put : (old mid now : Node) (n m : ℕ) (x : Xid) (row : RowNo) (held found value : Value)
+      → IsOwn (started old n 0) x mid → now ≡ changed mid n x row found value
+      → IsRedo (change_record x now.scn row held value)
+      → IsSound asked old → IsProper old → Logged durable waits (reverse old.journal) (parts_of old)
+      → log_history ((durable ++ take m (waits ++ change_record x now.scn row held value ∷ [])) ∷ [] ∷ [] ∷ [] ∷ [] ∷ [] ∷ [] ∷ [] ∷ [])
+      ≡ map line_of_commit (reverse (history old.journal))
+  logs-tell-put old mid now n m x row held found value own_is is redo sound proper logged =
+      log_history-of_one (durable ++ take m records) (history old.journal)
+      (lines-durable durable records (reverse now.journal) (parts_of now) m (IsLogged-put old mid now n x row held found value own_is is redo sound proper logged)
+      (rw now_own (rw past by_then.2))
+      ∙ ap (λ (ks : List Commit). map line_of_commit (reverse ks)) (ap history_of_past past))
+      (Falls-history (reverse old.journal))
+    where
+      records : List Redo
+      records = waits ++ change_record x now.scn row held value ∷ []
+
+      by_then : (mid.own ≡ Some x) × (mid.journal ≡ (started old n 0).journal) × (stood (is_commit x) (reverse old.journal) ≡ false)
+      by_then = put-is_new old mid n x old.own refl own_is proper
+
+      now_own : now.own ≡ Some x
+      now_own = ap (λ (node : Node). node.own) is ∙ by_then.0
+
+      past : reverse now.journal ≡ Changed n x row found value ∷ Started n 0 old.known ∷ reverse old.journal
+      past = rw (is, by_then.1, reverse_push (started old n 0).journal (Changed n x row found value), reverse_push old.journal (Started n 0 old.known)) refl
+
+  -- the same after a fault
+  pub logs-tell-lost-put : (old mid now : Node) (n m : ℕ) (x : Xid) (row : RowNo) (held found value : Value)
+      → IsOwn (started old n 0) x mid → now ≡ changed mid n x row found value
+      → IsRedo (change_record x now.scn row held value)
+      → IsSound asked old → IsProper old → Logged durable waits (reverse old.journal) (parts_of old)
+      → log_history ((durable ++ take m (waits ++ change_record x now.scn row held value ∷ [])) ∷ [] ∷ [] ∷ [] ∷ [] ∷ [] ∷ [] ∷ [] ∷ [])
+      ≡ map line_of_commit (reverse (history (lost (started old n 0) n).journal))
+  logs-tell-lost-put old mid now n m x row held found value own_is is redo sound proper logged =
+      logs-tell-put old mid now n m x row held found value own_is is redo sound proper logged
+      ∙ ap (λ (ks : List Commit). map line_of_commit (reverse ks))
+      (sym (history-lost (started old n 0) n ∙ ap history_of_past (reverse_push old.journal (Started n 0 old.known))))
 
   ended-logged : (old : Node) (n : ℕ) (x : Xid) → old.own ≡ Some x → length old.slots ≡ 8
       → IsRedo (commit_record x (record { 0 = old.scn.0 + 1 })) → stood (is_commit x) (reverse old.journal) ≡ false
