@@ -7,3 +7,6 @@ pub mod ProperLemmas
 pub mod LinedLemmas
 pub mod LinedSteps
 pub mod LostLemmas
+pub mod LogLists
+pub mod LogLemmas
+pub mod LogSteps
