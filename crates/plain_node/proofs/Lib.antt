@@ -10,3 +10,7 @@ pub mod LostLemmas
 pub mod LogLists
 pub mod LogLemmas
 pub mod LogSteps
+pub mod EngineLemmas
+pub mod EndLemmas
+pub mod KeptLemmas
+pub mod RunLemmas

@@ -17,6 +17,8 @@ use Rattle.log_table.specs.LogHistory.{log_history}
 use Rattle.row_model.specs.declared.entry.Entry.{Entry}
 use Rattle.row_model.specs.History.{history}
 use Rattle.script_text.specs.declared.item.Item.{Item}
+use Rattle.script_text.specs.declared.item.Item.TheVariants as items
+use Rattle.script_text.specs.declared.item.Stmt.TheVariants as statements
 use Rattle.plain_node.specs.declared.engine.Engine.{Engine}
 use Rattle.plain_node.specs.Logged.{Logged, line_of_commit}
 use Rattle.plain_node.specs.Runs.{CanRun}
@@ -125,8 +127,16 @@ EndsCut disk old n x disk_now now asked =
     ((now.node ≡ old.node) × MaySave disk disk_now old.thread)
     ⊎ CutAtForce disk old n x disk_now now asked
 
--- a node after a commit that a fault cut short: it started, was marked, or entered
+-- a node after the end of a transaction that a fault cut short: it was left, or marked, or the commit entered
+abbrev pub IsCutEnd : Node → ℕ → Xid → Node → Type 0
+IsCutEnd old n x now = (now ≡ old) ⊎ (now ≡ marked old n x) ⊎ (now ≡ entered (marked old n x) x)
+
+-- a node after a commit that a fault cut short
 abbrev pub IsCutCommit : Node → ℕ → ℕ → Node → Type 0
-IsCutCommit old n z now =
-    (now ≡ started old n z)
-    ⊎ ((x : Xid) × (old.own ≡ Some x) × ((now ≡ marked (started old n z) n x) ⊎ (now ≡ entered (marked (started old n z) n x) x)))
+IsCutCommit old n z now = (x : Xid) × (old.own ≡ Some x) × IsCutEnd (started old n z) n x now
+
+-- a node after a line that a fault cut short: a put that started, or a commit
+abbrev pub IsCutLine : Node → ℕ → Item → Node → Type 0
+IsCutLine old n (items.Stmt session (statements.Put row value)) now = now ≡ started old n session
+IsCutLine old n (items.Stmt session statements.Commit) now = IsCutCommit old n session now
+IsCutLine old n _ now = ⊥

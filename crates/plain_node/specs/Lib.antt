@@ -7,3 +7,4 @@ pub mod Lined
 pub mod Logged
 pub mod Lost
 pub mod Engine
+pub mod Ran

@@ -4,7 +4,7 @@ ghost use Rattle.rac_disk.specs.Calls.{WhereTold};
 ghost use Rattle.redo_record.specs.Redo.{IsRedo, IsXid, length_of, redo_bytes};
 ghost use Rattle.redo_thread.specs.Thread.{ThreadState, appended, end_of, forced};
 ghost use Rattle.row_model.specs.Good.{Range};
-ghost use Rattle.plain_node.specs.Engine.{Ends, EndsCut, EntersIfWhole, FailedOnce, IsCalm, IsCutCommit, IsKept, IsOneFault, LogsTell, MadeRoom, MaySave};
+ghost use Rattle.plain_node.specs.Engine.{Ends, EndsCut, IsCutEnd, EntersIfWhole, FailedOnce, IsCalm, IsCutCommit, IsKept, IsOneFault, LogsTell, MadeRoom, MaySave};
 ghost use Rattle.plain_node.specs.Runs.{IsProper, IsSound};
 ghost use Rattle.plain_node.specs.Steps.{opened, started, got, Puts, committed};
 ghost use Rattle.plain_node.specs.Lost.{entered};
@@ -107,6 +107,7 @@ impl Engine {
         row: RowNo,
         new: Value,
     ) -> Result<(), Stop>
+        requires session { session ≡ 0 }
         requires wraps { (k : ℕ) → k < 8 → wrap_at self.old.node.slots k + 1 < 2 ^ 32 }
         requires slots { length self.old.node.slots ≡ 8 }
         requires scn { self.old.node.scn.0 + 2 < 2 ^ 64 }
@@ -114,7 +115,7 @@ impl Engine {
         requires row { row.0 < 512 }
         requires place { end_of self.old.thread + 236 < 2 ^ 64 }
         ensures puts { OnOk result (Puts self.old.node stmt session row new self.new.node) }
-        ensures end { OnOk result (end_of self.new.thread ≤ end_of self.old.thread + 236) }
+        ensures thread { OnOk result ((self.new.thread.number ≡ self.old.thread.number) × (end_of self.new.thread ≤ end_of self.old.thread + 236)) }
         ensures kept { OnOk result ((asked : ℕ → Option Range) → IsSound asked self.old.node → IsProper self.old.node →
             IsKept (D.state disk.old) self.old → IsKept (D.state disk.new) self.new) }
         ensures calm { OnOk result (IsCalm (D.faults disk.old) (D.faults disk.new) (D.full disk.old) (D.full disk.new)) }
@@ -140,6 +141,8 @@ impl Engine {
         stmt: u32,
         session: u16,
     ) -> Result<(), Stop>
+        requires session { session ≡ 0 }
+        requires slots { length self.old.node.slots ≡ 8 }
         requires scn { self.old.node.scn.0 + 2 < 2 ^ 64 }
         requires own { IfSome self.old.node.own IsXid }
         requires number { self.old.thread.number ≡ 0 }
@@ -147,7 +150,8 @@ impl Engine {
         ensures committed { OnOk result (self.new.node ≡ committed self.old.node stmt session) }
         ensures kept { OnOk result ((asked : ℕ → Option Range) → IsSound asked self.old.node → IsProper self.old.node →
             IsKept (D.state disk.old) self.old → IsKept (D.state disk.new) self.new) }
-        ensures end { OnOk result (end_of self.new.thread ≤ end_of self.old.thread + (self.new.node.scn.0 - self.old.node.scn.0) * 236) }
+        ensures thread { OnOk result ((self.new.thread.number ≡ self.old.thread.number)
+            × (end_of self.new.thread ≤ end_of self.old.thread + (self.new.node.scn.0 - self.old.node.scn.0) * 236)) }
         ensures calm { OnOk result (IsCalm (D.faults disk.old) (D.faults disk.new) (D.full disk.old) (D.full disk.new)) }
         ensures cut { IsErrOf result Stop.Fault → IsCutCommit self.old.node stmt session self.new.node }
         ensures tells { IsErrOf result Stop.Fault → (asked : ℕ → Option Range) → IsSound asked self.old.node → IsProper self.old.node →
@@ -176,7 +180,8 @@ impl Engine {
         requires place { end_of self.old.thread + 236 < 2 ^ 64 }
         ensures ended { OnOk result (Ends (D.state disk.old) self.old stmt xid (D.state disk.new) self.new) }
         ensures calm { OnOk result (IsCalm (D.faults disk.old) (D.faults disk.new) (D.full disk.old) (D.full disk.new)) }
-        ensures cut { IsErrOf result Stop.Fault → EndsCut (D.state disk.old) self.old stmt xid (D.state disk.new) self.new
+        ensures left { IsErrOf result Stop.Fault → IsCutEnd self.old.node stmt xid self.new.node }
+        ensures cut { IsErrOf result Stop.Fault → IsSome (D.state disk.old) → EndsCut (D.state disk.old) self.old stmt xid (D.state disk.new) self.new
             (IsOneFault (D.faults disk.old) (D.faults disk.new) (D.full disk.old) (D.full disk.new)) }
         ensures cause { IsErrOf result Stop.Fault → Rose (D.faults disk.old) (D.faults disk.new) ⊎ Rose (D.full disk.old) (D.full disk.new) }
     {
@@ -203,14 +208,17 @@ impl Engine {
         ensures thread { self.new.thread ≡ self.old.thread }
         ensures state { WhereTold (D.state disk.old) (D.state disk.new) (λ old new. new ≡ old) }
         ensures enters { OnOk result (IsSome (D.state disk.old) → EntersIfWhole (D.state disk.new) self.old.thread self.old.node xid self.new.node
-            (D.faults disk.new ≡ D.faults disk.old)) }
+            ((D.faults disk.new ≡ D.faults disk.old) × (D.faults disk.new < 2 ^ 64 - 1))) }
         ensures either { OnOk result ((self.new.node ≡ self.old.node) ⊎ (self.new.node ≡ entered self.old.node xid)) }
         ensures rose { (D.faults disk.new ≡ D.faults disk.old) ⊎ Rose (D.faults disk.old) (D.faults disk.new) }
         ensures full { D.full disk.new ≡ D.full disk.old }
     {
-        match disk.log_len(InstNo(0)) {
-            Ok(len) if len >= self.thread.end().0 => self.node.enter(xid),
-            Ok(_) | Err(Failed) => Ok(()),
+        let Ok(len) = disk.log_len(InstNo(0)) else {
+            return Ok(());
+        };
+        if len < self.thread.end().0 {
+            return Ok(());
         }
+        self.node.enter(xid)
     }
 }

@@ -3,7 +3,8 @@
 
 mod engine;
 mod node;
+mod run;
 mod slots;
 mod versions;
 
-pub use engine::{Engine, Stop};
+pub use run::Ran;

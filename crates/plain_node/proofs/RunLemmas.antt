@@ -1,0 +1,29 @@
+-- What a line leaves of the node's clock.
+use Rattle.std.proofs.Common.{◌≡◌, ◌∙◌, ℕ, ◌+◌, ◌≤◌, Option, Some, None, MatchOption, Result, Ok, Err, refl, ap, arith}
+use Rattle.std.specs.Prelude.{OnOk}
+use Rattle.rac_nums.specs.declared.names.RowNo.{RowNo}
+use Rattle.rac_nums.specs.declared.names.Xid.{Xid}
+use Rattle.rac_nums.specs.declared.value.Value.{Value}
+use Rattle.plain_node.specs.declared.node.Node.{Node}
+use Rattle.plain_node.specs.Slots.{IsLeastUsed, next_xid}
+use Rattle.plain_node.specs.Steps.{IsOwn, Puts, begun, changed, commit_of, committed, started}
+
+-- two facts of a result that is Ok give a third
+pub on_ok_both : {T E : Type 0} {A B C : Type 0} (result : Result T E) → (A → B → C) → OnOk result A → OnOk result B → OnOk result C
+on_ok_both (Ok t) f a b = f a b
+on_ok_both (Err e) f a b = tt
+
+-- beginning a transaction leaves the clock
+own-scn : (old mid : Node) (x : Xid) (o : Option Xid) → MatchOption o ((k : ℕ) × IsLeastUsed old.slots k × (x ≡ next_xid old.slots k) × (mid ≡ begun old k)) (λ y. (x ≡ y) × (mid ≡ old)) → mid.scn.0 ≡ old.scn.0
+own-scn old mid x None h = ap (λ (node : Node). node.scn.0) h.3
+own-scn old mid x (Some y) h = ap (λ (node : Node). node.scn.0) h.1
+
+pub put-scn : (old now : Node) (n z : ℕ) (row : RowNo) (value : Value) → Puts old n z row value now → now.scn.0 ≡ old.scn.0 + 1
+put-scn old now n z row value puts = ap (λ (node : Node). node.scn.0) puts.3 ∙ ap (λ (k : ℕ). k + 1) (own-scn (started old n z) puts.1 puts.0 old.own puts.2)
+
+pub committed-scn : (old : Node) (n z : ℕ) → old.scn.0 ≤ (committed old n z).scn.0
+committed-scn old n z = by_own old.own
+  where
+    by_own : (o : Option Xid) → old.scn.0 ≤ (commit_of (started old n z) n o).scn.0
+    by_own None = omega arith
+    by_own (Some x) = omega arith
