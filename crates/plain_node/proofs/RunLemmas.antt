@@ -1,6 +1,12 @@
 -- What a line leaves of the node's clock.
-use Rattle.std.proofs.Common.{◌≡◌, ◌∙◌, ℕ, ◌+◌, ◌≤◌, Option, Some, None, MatchOption, Result, Ok, Err, refl, ap, arith}
-use Rattle.std.specs.Prelude.{OnOk}
+use Rattle.std.proofs.Common.{◌≡◌, ◌∙◌, ℕ, ◌+◌, ◌<◌, ◌≤◌, List, [], ◌∷◌, ◌++◌, Option, Some, None, MatchOption, Result, Ok, Err, refl, ap, arith}
+use Rattle.std.specs.Prelude.{IfSome, OnOk}
+use Rattle.std.proofs.lemmas.List.Elements.{All-push}
+use Rattle.rac_nums.specs.declared.names.Scn.{Scn}
+use Rattle.row_model.specs.declared.entry.Entry.{Entry}
+use Rattle.row_model.specs.declared.entry.Entry.TheVariants.{Acked, Committed, Marked, Plain, Started}
+use Rattle.script_text.specs.Lines.{session_in}
+use Rattle.plain_node.specs.Runs.{IsNamed}
 use Rattle.rac_nums.specs.declared.names.RowNo.{RowNo}
 use Rattle.rac_nums.specs.declared.names.Xid.{Xid}
 use Rattle.rac_nums.specs.declared.value.Value.{Value}
@@ -27,3 +33,21 @@ committed-scn old n z = by_own old.own
     by_own : (o : Option Xid) → old.scn.0 ≤ (commit_of (started old n z) n o).scn.0
     by_own None = omega arith
     by_own (Some x) = omega arith
+
+-- an entry is of no session, or of one below a number
+abbrev IsBelow : ℕ → Entry → Type 0
+IsBelow sessions e = IfSome (session_in e) (λ z. z < sessions)
+
+pub named-committed : (sessions : ℕ) (node : Node) (n z : ℕ) → z < sessions → IsNamed sessions node → IsNamed sessions (committed node n z)
+named-committed sessions node n z below named = by_own node.own
+  where
+    begun_named : IsNamed sessions (started node n z)
+    begun_named = All-push (IsBelow sessions) node.journal (Started n z node.known) named below
+
+    by_own : (o : Option Xid) → IsNamed sessions (commit_of (started node n z) n o)
+    by_own None = All-push (IsBelow sessions) (started node n z).journal (Plain n) begun_named tt
+    by_own (Some x) =
+        let c : Scn = record { 0 = node.scn.0 + 1 } in
+        let first = All-push (IsBelow sessions) (started node n z).journal (Marked n x c) begun_named tt in
+        let second = All-push (IsBelow sessions) ((started node n z).journal ++ Marked n x c ∷ []) (Committed x c (record { 0 = 0 })) first tt in
+        All-push (IsBelow sessions) (((started node n z).journal ++ Marked n x c ∷ []) ++ Committed x c (record { 0 = 0 }) ∷ []) (Acked n x c) second tt

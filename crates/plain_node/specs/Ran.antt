@@ -1,5 +1,5 @@
 -- What a run over a disk leaves.
-use Rattle.std.specs.Prelude.{◌≡◌, ◌⊎◌, ℕ, List, [], true, false, Option, IsSomeAnd}
+use Rattle.std.specs.Prelude.{◌≡◌, ◌≤◌, ◌⊎◌, ℕ, List, [], length, true, false, Option, IsSomeAnd}
 use Rattle.rac_io.specs.Counts.{Rose}
 use Rattle.rac_disk.specs.Disk.{DiskState}
 use Rattle.row_model.specs.declared.entry.Entry.{Entry}
@@ -19,6 +19,7 @@ pub record IsRan (parts : ScriptParts) (faults faults_now full full_now : ℕ) (
   pub answered : ran.faulted ≡ false → AllAnswered parts ran.journal
   pub calm : ran.faulted ≡ false → IsCalm faults faults_now full full_now
   pub cause : ran.faulted ≡ true → Rose faults faults_now ⊎ Rose full full_now
+  pub ended : ran.faulted ≡ true → 1 ≤ length ran.journal
 
 -- The logs on the disk, which were empty, tell the history of the journal, where one call failed at most.
 abbrev pub Tells : Option DiskState → Option DiskState → Type 0 → List Entry → Type 0

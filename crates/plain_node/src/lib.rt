@@ -7,4 +7,4 @@ mod run;
 mod slots;
 mod versions;
 
-pub use run::Ran;
+pub use run::{Ran, run_script};

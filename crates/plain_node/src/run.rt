@@ -1,4 +1,4 @@
-ghost use Rattle.std.specs.Prelude.{◌≡◌, ◌≢◌, ◌<◌, ◌⊎◌, ℕ, List, [], ◌∷◌, ◌++◌, Option, None, true, false, IfOk, IsErrOf, IsSomeAnd, OnOk};
+ghost use Rattle.std.specs.Prelude.{◌≡◌, ◌≢◌, ◌<◌, ◌≤◌, ◌⊎◌, ℕ, List, [], ◌∷◌, ◌++◌, Option, None, true, false, IfOk, IsErrOf, IsSomeAnd, OnOk, length};
 ghost use Rattle.rac_io.specs.Counts.{Rose};
 ghost use Rattle.row_model.specs.Good.{Range};
 ghost use Rattle.script_text.specs.declared.item.Item.{Item};
@@ -64,4 +64,112 @@ fn try_answer<D: SharedDisk>(
         },
         _ => unreachable!(),
     }
+}
+
+/// Answers a line. Where a fault of the disk ends the instance, the line is answered as lost.
+fn answer<D: SharedDisk>(
+    engine: &mut Engine,
+    alloc: Global,
+    disk: &mut D,
+    line: u32,
+    item: &Item,
+) -> Result<(), Stop>
+    requires { (more : List (ℕ × Item)) × CanGo engine.old ((line, item.now) ∷ more) }
+    ensures runs { OnOk result ((more : List (ℕ × Item)) → CanGo engine.old ((line, item.now) ∷ more) → CanGo engine.new more) }
+    ensures right { OnOk result ((parts : ScriptParts) (done : List (ℕ × Item)) → IsNext parts done (last_line 0 done) (line, item.now) →
+        IsRight parts done engine.old.node → IsRight parts (done ++ (line, item.now) ∷ []) engine.new.node) }
+    ensures kept { OnOk result ((parts : ScriptParts) (done : List (ℕ × Item)) → IsRight parts done engine.old.node →
+        IsKept (D.state disk.old) engine.old → IsKept (D.state disk.new) engine.new) }
+    ensures calm { OnOk result (IsCalm (D.faults disk.old) (D.faults disk.new) (D.full disk.old) (D.full disk.new)) }
+    ensures lost { IsErrOf result Stop.Fault → (parts : ScriptParts) (done : List (ℕ × Item)) → IsNext parts done (last_line 0 done) (line, item.now) →
+        IsRight parts done engine.old.node → IsGoodSoFar parts engine.new.node.journal }
+    ensures tells { IsErrOf result Stop.Fault → (parts : ScriptParts) (done : List (ℕ × Item)) → IsRight parts done engine.old.node →
+        IsKept (D.state disk.old) engine.old → IsOneFault (D.faults disk.old) (D.faults disk.new) (D.full disk.old) (D.full disk.new) →
+        IsSomeAnd (D.state disk.new) (λ it. LogsTell it engine.new.node.journal) }
+    ensures cause { IsErrOf result Stop.Fault → Rose (D.faults disk.old) (D.faults disk.new) ⊎ Rose (D.full disk.old) (D.full disk.new) }
+    ensures ended { IsErrOf result Stop.Fault → 1 ≤ length engine.new.node.journal }
+{
+    match try_answer(engine, alloc, disk, line, item) {
+        Ok(()) => Ok(()),
+        Err(Stop::Fault) => {
+            engine.node.lose(line)?;
+            Err(Stop::Fault)
+        }
+        Err(Stop::NoMemory) => Err(Stop::NoMemory),
+    }
+}
+
+/// Runs the lines of a wave in order.
+fn run_wave<D: SharedDisk>(
+    engine: &mut Engine,
+    alloc: Global,
+    disk: &mut D,
+    wave: &Wave,
+) -> Result<(), Stop>
+    requires { (more : List (ℕ × Item)) × CanGo engine.old (wave.now ++ more) }
+    ensures runs { OnOk result ((more : List (ℕ × Item)) → CanGo engine.old (wave.now ++ more) → CanGo engine.new more) }
+    ensures went { OnOk result ((parts : ScriptParts) (done : List (ℕ × Item)) → AreNext parts done wave.now →
+        IsRight parts done engine.old.node → IsRight parts (done ++ wave.now) engine.new.node
+        × (IsKept (D.state disk.old) engine.old → IsKept (D.state disk.new) engine.new)) }
+    ensures calm { OnOk result (IsCalm (D.faults disk.old) (D.faults disk.new) (D.full disk.old) (D.full disk.new)) }
+    ensures lost { IsErrOf result Stop.Fault → (parts : ScriptParts) (done : List (ℕ × Item)) → AreNext parts done wave.now →
+        IsRight parts done engine.old.node → IsGoodSoFar parts engine.new.node.journal
+        × (IsKept (D.state disk.old) engine.old → IsOneFault (D.faults disk.old) (D.faults disk.new) (D.full disk.old) (D.full disk.new) →
+        IsSomeAnd (D.state disk.new) (λ it. LogsTell it engine.new.node.journal)) }
+    ensures cause { IsErrOf result Stop.Fault → Rose (D.faults disk.old) (D.faults disk.new) ⊎ Rose (D.full disk.old) (D.full disk.new) }
+    ensures ended { IsErrOf result Stop.Fault → 1 ≤ length engine.new.node.journal }
+{
+    for line in wave.as_slice() {
+        answer(engine, alloc, disk, line.0, &line.1)?;
+    }
+    Ok(())
+}
+
+/// Runs the waves in order.
+fn run_waves<D: SharedDisk>(
+    engine: &mut Engine,
+    alloc: Global,
+    disk: &mut D,
+    waves: &Waves,
+) -> Result<(), Stop>
+    requires { CanGo engine.old (joined waves.now) }
+    ensures went { OnOk result ((parts : ScriptParts) → AreNext parts [] (joined waves.now) →
+        IsRight parts [] engine.old.node → IsRight parts (joined waves.now) engine.new.node
+        × (IsKept (D.state disk.old) engine.old → IsKept (D.state disk.new) engine.new)) }
+    ensures calm { OnOk result (IsCalm (D.faults disk.old) (D.faults disk.new) (D.full disk.old) (D.full disk.new)) }
+    ensures lost { IsErrOf result Stop.Fault → (parts : ScriptParts) → AreNext parts [] (joined waves.now) →
+        IsRight parts [] engine.old.node → IsGoodSoFar parts engine.new.node.journal
+        × (IsKept (D.state disk.old) engine.old → IsOneFault (D.faults disk.old) (D.faults disk.new) (D.full disk.old) (D.full disk.new) →
+        IsSomeAnd (D.state disk.new) (λ it. LogsTell it engine.new.node.journal)) }
+    ensures cause { IsErrOf result Stop.Fault → Rose (D.faults disk.old) (D.faults disk.new) ⊎ Rose (D.full disk.old) (D.full disk.new) }
+    ensures ended { IsErrOf result Stop.Fault → 1 ≤ length engine.new.node.journal }
+{
+    for wave in waves.as_slice() {
+        run_wave(engine, alloc, disk, wave)?;
+    }
+    Ok(())
+}
+
+/// Runs a script over a disk whose logs are empty, and gives the journal of the run. The first fault of
+/// the disk ends it.
+pub fn run_script<D: SharedDisk>(
+    alloc: Global,
+    script: &Script,
+    disk: &mut D,
+) -> Result<Ran, NoMemory>
+    requires well_formed { IsWellFormed script.now }
+    ensures ran { IfOk result (IsRan script.now (D.faults disk.old) (D.faults disk.new) (D.full disk.old) (D.full disk.new)) }
+    ensures tells { IfOk result (λ ran. Tells (D.state disk.old) (D.state disk.new)
+        (IsOneFault (D.faults disk.old) (D.faults disk.new) (D.full disk.old) (D.full disk.new)) ran.journal) }
+{
+    let mut engine = Engine::new(alloc)?;
+    let faulted = match run_waves(&mut engine, alloc, disk, script.waves()) {
+        Ok(()) => false,
+        Err(Stop::Fault) => true,
+        Err(Stop::NoMemory) => return Err(NoMemory),
+    };
+    Ok(Ran {
+        journal: engine.node.journal,
+        faulted,
+    })
 }

@@ -1,6 +1,7 @@
 -- A statement keeps the state in agreement with the journal; the session is number 0.
 use Rattle.std.proofs.Common.{◌∙◌, ap, arith}
-use Rattle.plain_node.proofs.RunLemmas.{committed-scn, on_ok_both, put-scn}
+use Rattle.plain_node.proofs.LogSteps.{IsLogged-opened}
+use Rattle.plain_node.proofs.RunLemmas.{committed-scn, named-committed, on_ok_both, put-scn}
 use Rattle.std.proofs.lemmas.Result.{on_ok_weaker}
 use Rattle.script_text.specs.Asked.{range_asked, range_of}
 use Rattle.plain_node.proofs.StepLemmas.{IsSound-got, IsSound-put, IsSound-committed, IsProper-opened, IsProper-got, IsProper-put, IsProper-committed}
@@ -153,4 +154,18 @@ returns-in-Commit-clause-lined g c =
     (λ e parts done last next sound proper lined.
     let e2 = rw plain.0 at e in
     rw (e2, c.in-Stmt.is, c.in-Commit.is, plain.0) (IsLined-committed (asked parts) parts done last c.args.engine.now.node c.args.line c.requires.1.runs.1.slots (rw (c.in-Stmt.is, c.in-Commit.is, plain.0) at next) sound lined))
+    c.commit.ensures.committed
+pub returns-in-Session-clause-kept : goal.returns-in-Session-clause-kept
+returns-in-Session-clause-kept g c =
+    on_ok_weaker c.open.result
+    (λ e rows sound proper kept. rw e (kept.0, kept.1, kept.2, IsLogged-opened rows kept.0 kept.1 c.args.engine.now.node c.in-Session.session c.in-Session.inst kept.3))
+    c.open.ensures.opened
+
+pub returns-in-Put-clause-tells : goal.returns-in-Put-clause-tells
+returns-in-Put-clause-tells g c = λ fault rows sound proper kept one. c.put.ensures.tells fault rows sound proper kept
+
+pub returns-in-Commit-clause-named : goal.returns-in-Commit-clause-named
+returns-in-Commit-clause-named g c =
+    on_ok_weaker c.commit.result
+    (λ e sessions below named. rw e (named-committed sessions c.args.engine.now.node c.args.line c.in-Stmt.session (rw c.in-Stmt.is at below) named))
     c.commit.ensures.committed
