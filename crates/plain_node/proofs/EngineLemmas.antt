@@ -37,10 +37,10 @@ log_at-other it bytes thread other = ap (λ (log : LogState). log.bytes) (get_or
 -- what one more piece in the first log leaves
 pub HoldsLog-more : (it new : DiskState) (bytes more : List ℕ) → IsDisk it → new ≡ with_log it 0 (log_at it 0 ++ more) → HoldsLog it bytes → HoldsLog new (bytes ++ more)
 HoldsLog-more it new bytes more is made holds = rw made (
-  record {
-    first = log_at-same it (log_at it 0 ++ more) is ∙ ap (λ (front : List ℕ). front ++ more) holds.first;
-    others = λ thread some few. log_at-other it (log_at it 0 ++ more) thread some ∙ holds.others thread some few;
-  })
+    record {
+      first = log_at-same it (log_at it 0 ++ more) is ∙ ap (λ (front : List ℕ). front ++ more) holds.first;
+      others = λ thread some few. log_at-other it (log_at it 0 ++ more) thread some ∙ holds.others thread some few;
+    })
 
 -- the bytes of more records
 pub log_bytes-append : (xs ys : List Redo) → log_bytes (xs ++ ys) ≡ log_bytes xs ++ log_bytes ys

@@ -106,10 +106,10 @@ module _ (asked : ℕ → Option Range) (old now : Engine) (n : ℕ) (x : Xid) (
           elim (cases_lt saved.whole (length (waits ++ r ∷ []))) [
             | inl lt ↦ lt
             | inr le ↦ absurd (
-              let all = sym some ∙ take_all saved.whole (waits ++ r ∷ []) le in
-              let same = ap (λ (rs : List Redo). length rs) all in
-              omega (arith, same, length-append waits (r ∷ []), length-take saved.whole waits)
-            )
+                let all = sym some ∙ take_all saved.whole (waits ++ r ∷ []) le in
+                let same = ap (λ (rs : List Redo). length rs) all in
+                omega (arith, same, length-append waits (r ∷ []), length-take saved.whole waits)
+                )
           ] in
           let short = part-shorter (waits ++ r ∷ []) count saved.whole saved.are_whole few in
           let marked_is = part (omega (arith, saved.size, end, short)) in

@@ -14,3 +14,4 @@ pub mod EngineLemmas
 pub mod EndLemmas
 pub mod KeptLemmas
 pub mod RunLemmas
+pub mod AnswerLemmas

@@ -37,15 +37,15 @@ pub returns-in-Session-clause-runs : goal.returns-in-Session-clause-runs
 returns-in-Session-clause-runs g c =
     on_ok_weaker c.open.result
     (λ e more can. rw e (
-      record {
-        runs = (
-          c.args.line,
-          Fits-opened can.runs.0 c.args.line c.in-Session.session c.in-Session.inst c.args.engine.now.node can.runs.2.0 can.runs.1,
-          (rw c.in-Session.is at can.runs.2).3,
-        );
-        number = can.number;
-        small = can.small;
-      }
+    record {
+      runs = (
+        c.args.line,
+        Fits-opened can.runs.0 c.args.line c.in-Session.session c.in-Session.inst c.args.engine.now.node can.runs.2.0 can.runs.1,
+        (rw c.in-Session.is at can.runs.2).3,
+      );
+      number = can.number;
+      small = can.small;
+    }
     ))
     c.open.ensures.opened
 
@@ -53,15 +53,15 @@ pub returns-in-Get-clause-runs : goal.returns-in-Get-clause-runs
 returns-in-Get-clause-runs g c =
     on_ok_weaker c.get.result
     (λ e more can. rw e (
-      record {
-        runs = (
-          c.args.line,
-          Fits-got can.runs.0 c.args.line c.in-Stmt.session c.in-Get.row c.args.engine.now.node can.runs.2.0 can.runs.1,
-          (rw c.in-Stmt.is at can.runs.2).3,
-        );
-        number = can.number;
-        small = can.small;
-      }
+    record {
+      runs = (
+        c.args.line,
+        Fits-got can.runs.0 c.args.line c.in-Stmt.session c.in-Get.row c.args.engine.now.node can.runs.2.0 can.runs.1,
+        (rw c.in-Stmt.is at can.runs.2).3,
+      );
+      number = can.number;
+      small = can.small;
+    }
     ))
     c.get.ensures.got
 
@@ -155,6 +155,7 @@ returns-in-Commit-clause-lined g c =
     let e2 = rw plain.0 at e in
     rw (e2, c.in-Stmt.is, c.in-Commit.is, plain.0) (IsLined-committed (asked parts) parts done last c.args.engine.now.node c.args.line c.requires.1.runs.1.slots (rw (c.in-Stmt.is, c.in-Commit.is, plain.0) at next) sound lined))
     c.commit.ensures.committed
+
 pub returns-in-Session-clause-kept : goal.returns-in-Session-clause-kept
 returns-in-Session-clause-kept g c =
     on_ok_weaker c.open.result
