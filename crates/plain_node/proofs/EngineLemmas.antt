@@ -22,7 +22,7 @@ use Rattle.plain_node.specs.Engine.{HoldsLog, IsKept, IsWritten, LogsTell, MadeR
 use Rattle.plain_node.specs.Runs.{IsProper}
 use Rattle.plain_node.specs.Logged.{Logged, line_of_commit}
 use Rattle.plain_node.specs.Sound.{parts_of}
-use Rattle.plain_node.proofs.LogLemmas.{logs-tell}
+use Rattle.plain_node.proofs.LogLemmas.{Logged-none, logs-tell}
 use Rattle.plain_node.proofs.LogLists.{All-append, All-first, All-second}
 use Rattle.plain_node.proofs.LogSteps.{Logged-flushed}
 
@@ -171,3 +171,20 @@ pub told-now : (disk disk_now : Option DiskState) (Did : DiskState → DiskState
 told-now None disk_now Did P some told holds = absurd (cc some)
 told-now (Some it) None Did P some told holds = absurd told
 told-now (Some it) (Some new) Did P some told holds = holds it new told.2
+
+-- An engine that made no record is kept over a disk whose logs are empty.
+pub kept-new : (disk : Option DiskState) (engine : Engine) → engine.thread ≡ record { number = 0; durable = 0; waiting = []; durable_scn = 0; newest_scn = 0 } → engine.node.journal ≡ [] → engine.node.own ≡ None
+    → IsSomeAnd disk (λ it. HoldsLog it []) → IsKept disk engine
+kept-new disk engine thread journal own empty = (
+  [],
+  [],
+  record { number = ap (λ (it : ThreadState). it.number) thread; place = ap (λ (it : ThreadState). it.durable) thread; waiting = ap (λ (it : ThreadState). it.waiting) thread; told = empty },
+  rw journal (Logged-none (parts_of engine.node) own),
+)
+
+-- The log of an engine that no fault ended tells its journal.
+pub kept-tells : (disk : Option DiskState) (engine : Engine) → IsProper engine.node → IsKept disk engine → IsSomeAnd disk (λ it. LogsTell it engine.node.journal)
+kept-tells None engine proper kept = absurd kept.2.told
+kept-tells (Some it) engine proper kept =
+    told-by it kept.0 [] [] engine.node.journal tt (All-first IsRedo kept.0 kept.1 kept.3.each) (inl refl) (rw (append-nil kept.0, append-nil (log_bytes kept.0)) kept.2.told)
+    (logs-tell kept.0 kept.1 engine.node 0 proper kept.3)

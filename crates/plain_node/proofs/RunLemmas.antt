@@ -1,12 +1,21 @@
 -- What a line leaves of the node's clock.
-use Rattle.std.proofs.Common.{◌≡◌, ◌∙◌, ℕ, ◌+◌, ◌<◌, ◌≤◌, List, [], ◌∷◌, ◌++◌, Option, Some, None, MatchOption, Result, Ok, Err, refl, ap, arith}
+use Rattle.std.proofs.Common.{◌≡◌, ◌∙◌, ℕ, ◌+◌, ◌<◌, ◌≤◌, List, [], ◌∷◌, ◌++◌, Option, Some, None, MatchOption, Result, Ok, Err, length, reverse, refl, ap, arith}
 use Rattle.std.specs.Prelude.{IfSome, OnOk}
-use Rattle.std.proofs.lemmas.List.Elements.{All-push}
+use Rattle.std.proofs.lemmas.List.Elements.{All-nil, All-push}
+use Rattle.row_model.specs.Good.{changes_in}
+use Rattle.row_model.specs.History.{history}
+use Rattle.row_model.specs.Sees.{own_changes}
+use Rattle.script_text.specs.declared.item.Item.{Item}
+use Rattle.script_text.specs.Asked.{asked}
+use Rattle.script_text.specs.ScriptParts.{ScriptParts}
+use Rattle.plain_node.specs.Lined.{IsRight}
+use Rattle.plain_node.specs.Lost.{IsGoodSoFar}
+use Rattle.plain_node.proofs.ProperLemmas.{Replays-older}
 use Rattle.rac_nums.specs.declared.names.Scn.{Scn}
 use Rattle.row_model.specs.declared.entry.Entry.{Entry}
 use Rattle.row_model.specs.declared.entry.Entry.TheVariants.{Acked, Committed, Marked, Plain, Started}
 use Rattle.script_text.specs.Lines.{session_in}
-use Rattle.plain_node.specs.Runs.{IsNamed}
+use Rattle.plain_node.specs.Runs.{IsNamed, IsProper, IsSound}
 use Rattle.rac_nums.specs.declared.names.RowNo.{RowNo}
 use Rattle.rac_nums.specs.declared.names.Xid.{Xid}
 use Rattle.rac_nums.specs.declared.value.Value.{Value}
@@ -51,3 +60,26 @@ named-committed sessions node n z below named = by_own node.own
         let first = All-push (IsBelow sessions) (started node n z).journal (Marked n x c) begun_named tt in
         let second = All-push (IsBelow sessions) ((started node n z).journal ++ Marked n x c ∷ []) (Committed x c (record { 0 = 0 })) first tt in
         All-push (IsBelow sessions) (((started node n z).journal ++ Marked n x c ∷ []) ++ Committed x c (record { 0 = 0 }) ∷ []) (Acked n x c) second tt
+
+-- A node that did nothing is right for no lines.
+pub right-new : (parts : ScriptParts) (node : Node) → node.journal ≡ [] → IsSound (asked parts) node → IsProper node → IsRight parts [] node
+right-new parts node journal sound proper = record {
+  sound = sound;
+  proper = proper;
+  named = rw journal (All-nil (λ (e : Entry). IfSome (session_in e) (λ z. z < length parts.names)));
+  lined = rw journal (record { lines = tt; answered = tt; until = omega arith; unended = λ x later. refl });
+}
+
+-- The journal of a node that is right is good.
+pub right-good : (parts : ScriptParts) (done : List (ℕ × Item)) (node : Node) → IsRight parts done node → IsGoodSoFar parts node.journal
+right-good parts done node right = record {
+  named = right.named;
+  lines = right.lined.lines;
+  rows = right.sound.rows;
+  found = right.sound.found;
+  commits = right.proper.commits;
+  acknowledgements = right.proper.acknowledgements;
+  starts = right.proper.starts;
+  row_locks = right.proper.row_locks;
+  replay = Replays-older (own_changes 0 (reverse node.journal)) (changes_in (history node.journal)) right.proper.replays;
+}

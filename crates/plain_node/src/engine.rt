@@ -1,11 +1,11 @@
-ghost use Rattle.std.specs.Prelude.{◌≡◌, ◌≢◌, ℕ, ◌+◌, ◌*◌, ◌^◌, ◌<◌, ◌≤◌, ◌⊎◌, [], ◌∷◌, ◌++◌, ◌-◌, length, Option, IfSome, IsErr, IsErrOf, IsSome, IsSomeAnd, OnErr, OnOk};
+ghost use Rattle.std.specs.Prelude.{◌≡◌, ◌≢◌, ℕ, ◌+◌, ◌*◌, ◌^◌, ◌<◌, ◌≤◌, ◌⊎◌, [], ◌∷◌, ◌++◌, ◌-◌, length, Option, None, IfOk, IfSome, IsErr, IsErrOf, IsSome, IsSomeAnd, OnErr, OnOk};
 ghost use Rattle.rac_io.specs.Counts.{Rose};
 ghost use Rattle.rac_disk.specs.Calls.{WhereTold};
 ghost use Rattle.redo_record.specs.Redo.{IsRedo, IsXid, length_of, redo_bytes};
 ghost use Rattle.redo_thread.specs.Thread.{ThreadState, appended, end_of, forced};
 ghost use Rattle.row_model.specs.Good.{Range};
 ghost use Rattle.plain_node.specs.Engine.{Ends, EndsCut, IsCutEnd, EntersIfWhole, FailedOnce, IsCalm, IsCutCommit, IsKept, IsOneFault, LogsTell, MadeRoom, MaySave};
-ghost use Rattle.plain_node.specs.Runs.{IsProper, IsSound};
+ghost use Rattle.plain_node.specs.Runs.{Fits, IsProper, IsSound};
 ghost use Rattle.plain_node.specs.Steps.{opened, started, got, Puts, committed};
 ghost use Rattle.plain_node.specs.Lost.{entered};
 ghost use Rattle.plain_node.specs.Slots.{wrap_at};
@@ -49,7 +49,14 @@ pub struct Engine {
 }
 
 impl Engine {
-    pub fn new(alloc: Global) -> Result<Engine, NoMemory> {
+    pub fn new(alloc: Global) -> Result<Engine, NoMemory>
+        ensures journal { IfOk result (λ it. it.node.journal ≡ []) }
+        ensures home { IfOk result (λ it. it.node.home ≡ None) }
+        ensures fits { IfOk result (λ it. Fits 0 it.node) }
+        ensures sound { IfOk result (λ it. (asked : ℕ → Option Range) → IsSound asked it.node) }
+        ensures proper { IfOk result (λ it. IsProper it.node) }
+        ensures thread { IfOk result (λ it. it.thread ≡ record { number = 0; durable = 0; waiting = []; durable_scn = 0; newest_scn = 0 }) }
+    {
         Ok(Engine {
             node: Node::new(alloc),
             thread: RedoThread::new(alloc, InstNo(0), RedoAt(0))?,

@@ -145,7 +145,9 @@ fn run_waves<D: SharedDisk>(
     ensures ended { IsErrOf result Stop.Fault → 1 ≤ length engine.new.node.journal }
 {
     for wave in waves.as_slice() {
-        run_wave(engine, alloc, disk, wave)?;
+        if let Err(why) = run_wave(engine, alloc, disk, wave) {
+            return Err(why);
+        }
     }
     Ok(())
 }
@@ -163,13 +165,15 @@ pub fn run_script<D: SharedDisk>(
         (IsOneFault (D.faults disk.old) (D.faults disk.new) (D.full disk.old) (D.full disk.new)) ran.journal) }
 {
     let mut engine = Engine::new(alloc)?;
-    let faulted = match run_waves(&mut engine, alloc, disk, script.waves()) {
-        Ok(()) => false,
-        Err(Stop::Fault) => true,
-        Err(Stop::NoMemory) => return Err(NoMemory),
-    };
-    Ok(Ran {
-        journal: engine.node.journal,
-        faulted,
-    })
+    match run_waves(&mut engine, alloc, disk, script.waves()) {
+        Ok(()) => Ok(Ran {
+            journal: engine.node.journal,
+            faulted: false,
+        }),
+        Err(Stop::Fault) => Ok(Ran {
+            journal: engine.node.journal,
+            faulted: true,
+        }),
+        Err(Stop::NoMemory) => Err(NoMemory),
+    }
 }
