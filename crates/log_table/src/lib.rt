@@ -1,6 +1,7 @@
 //! The history of a database, read from its redo logs.
 #![tactic(auto)]
 
+mod changes;
 mod error;
 mod history;
 mod laws;
