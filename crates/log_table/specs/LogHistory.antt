@@ -1,5 +1,5 @@
 -- The history of redo logs: what was committed, by the whole records alone.
-use Rattle.std.specs.Prelude.{◌≡◌, ℕ, suc, ◌+◌, ◌*◌, List, [], ◌∷◌, ◌++◌, length, Bool, true, false, ◌==◌, ◌&&◌, ◌||◌, not, nat_lt, nat_le, if◌then◌else◌, Option, None, Some}
+use Rattle.std.specs.Prelude.{◌≡◌, ℕ, suc, ◌+◌, ◌*◌, List, [], ◌∷◌, ◌++◌, Bool, true, false, ◌==◌, ◌&&◌, ◌||◌, not, nat_lt, if◌then◌else◌, Option, None, Some}
 use Rattle.std.specs.List.{flat_map, filter_map, list_any, AllByRecursion}
 use Rattle.std.specs.Option.{option_map}
 use Rattle.rac_nums.specs.declared.names.RowNo.{RowNo}
@@ -8,10 +8,10 @@ use Rattle.rac_nums.specs.declared.value.Value.{Value}
 use Rattle.rac_nums.specs.declared.redo.DataChange.{DataChange}
 use Rattle.rac_nums.specs.declared.redo.Redo.{Redo}
 use Rattle.rac_nums.specs.declared.redo.RedoKind.{RedoKind}
-use Rattle.rac_nums.specs.declared.redo.RedoKind.TheVariants.{Change, Commit, Lock, RollbackEnd, StepBack}
+use Rattle.rac_nums.specs.declared.redo.RedoKind.TheVariants.{Change, Commit, StepBack}
 use Rattle.row_model.specs.Past.{same_xid}
 use Rattle.redo_record.specs.Redo.{IsRedo}
-use Rattle.redo_record.specs.Front.{BeginsWith, IsTorn, log_bytes}
+use Rattle.redo_record.specs.Front.{BeginsWith, log_bytes}
 use Rattle.log_table.specs.declared.line.HistoryLine.{HistoryLine}
 
 -- The whole records of a log from its beginning on, and the bytes behind them, which begin with none.
