@@ -1,8 +1,8 @@
 -- A line that a fault cut short leaves a good journal, which the log tells.
-use Rattle.std.proofs.Common.{◌≡◌, ◌∙◌, ◌⊎◌, ℕ, inl, inr, List, ◌∷◌, map, reverse, Bool, true, Option, Some, None, is_some, refl, sym, ap, subst}
+use Rattle.std.proofs.Common.{◌≡◌, ◌∙◌, ℕ, inl, inr, List, map, reverse, true, Option, Some, None, is_some, sym, ap}
 use Rattle.std.specs.Prelude.{IsSomeAnd}
 use Rattle.rac_disk.specs.Disk.{DiskState}
-use Rattle.row_model.specs.History.{Commit, history}
+use Rattle.row_model.specs.History.{Commit}
 use Rattle.script_text.specs.declared.item.Item.{Item}
 use Rattle.script_text.specs.declared.item.Item.TheVariants.{Session, CrashAfter, CrashMark, Start, Remaster, Checkpoint, Hold}
 use Rattle.script_text.specs.declared.item.Item.TheVariants.{Stmt as Statement}
@@ -13,9 +13,8 @@ use Rattle.plain_node.specs.declared.node.Node.{Node}
 use Rattle.plain_node.specs.Engine.{IsCutCommit, IsCutLine, LogsTell}
 use Rattle.plain_node.specs.Lined.{IsNext, IsRight, last_line}
 use Rattle.plain_node.specs.Logged.{line_of_commit}
-use Rattle.plain_node.specs.Lost.{IsGoodSoFar, entered, lost, marked}
+use Rattle.plain_node.specs.Lost.{IsGoodSoFar, lost}
 use Rattle.plain_node.specs.Runs.{IsPlain}
-use Rattle.plain_node.specs.Steps.{started}
 use Rattle.plain_node.proofs.LogSteps.{history-lost}
 use Rattle.plain_node.proofs.LostLemmas.{lost-entered, lost-marked, lost-started}
 

@@ -1,5 +1,5 @@
 -- How the end of a transaction goes, or is cut short.
-use Rattle.std.proofs.Common.{◌≡◌, ◌∙◌, ℕ, ◌+◌, ◌-◌, ◌^◌, ◌<◌, ◌≤◌, ◌⊎◌, inl, inr, List, [], ◌∷◌, ◌++◌, Option, Some, None, refl, sym, ap, subst, arith}
+use Rattle.std.proofs.Common.{◌≡◌, ◌∙◌, ℕ, ◌-◌, ◌^◌, ◌<◌, ◌⊎◌, inl, inr, ◌++◌, Option, Some, None, refl, ap, subst, arith}
 use Rattle.std.specs.Prelude.{IsSome, IsSomeAnd}
 use Rattle.rac_nums.specs.declared.names.Scn.{Scn}
 use Rattle.rac_nums.specs.declared.names.Xid.{Xid}
@@ -8,11 +8,11 @@ use Rattle.rac_io.specs.Counts.{Rose}
 use Rattle.rac_disk.specs.Calls.{WhereTold}
 use Rattle.rac_disk.specs.Disk.{DiskState, log_at, with_log}
 use Rattle.redo_record.specs.Redo.{IsRedo}
-use Rattle.redo_thread.specs.Thread.{ThreadState, appended, end_of, forced}
+use Rattle.redo_thread.specs.Thread.{ThreadState, appended, forced}
 use Rattle.plain_redo.specs.Records.{commit_record}
 use Rattle.plain_node.specs.declared.engine.Engine.{Engine}
 use Rattle.plain_node.specs.declared.node.Node.{Node}
-use Rattle.plain_node.specs.Engine.{CutAtForce, Ends, EntersIfWhole, FailedOnce, IsCalm, IsOneFault, MadeRoom, MaySave, next_commit}
+use Rattle.plain_node.specs.Engine.{CutAtForce, Ends, EntersIfWhole, FailedOnce, IsOneFault, MadeRoom, MaySave, next_commit}
 use Rattle.plain_node.specs.Lost.{entered, marked}
 use Rattle.plain_node.specs.Steps.{finished}
 

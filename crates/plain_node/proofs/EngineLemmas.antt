@@ -1,18 +1,16 @@
 -- What the engine's steps leave on the disk and in the buffer.
-use Rattle.std.proofs.Common.{◌≡◌, ◌∙◌, ◌≢◌, ℕ, zero, suc, ◌+◌, ◌-◌, ◌<◌, ◌≤◌, ◌⊎◌, inl, inr, List, [], ◌∷◌, ◌++◌, length, take, drop, map, reverse, Option, Some, None, slice_set, slice_index_or, refl, sym, ap, subst, arith, append_assoc, append-nil}
+use Rattle.std.proofs.Common.{◌≡◌, ◌∙◌, ℕ, ◌+◌, ◌<◌, ◌≤◌, ◌⊎◌, inl, inr, List, [], ◌∷◌, ◌++◌, length, take, drop, map, reverse, Option, Some, None, refl, sym, ap, arith, append_assoc, append-nil}
 use Rattle.std.specs.Prelude.{IsSome, IsSomeAnd}
 use Rattle.std.specs.List.{AllByRecursion}
-use Rattle.std.proofs.lemmas.List.{get_or-set_same, get_or-set_other, length-append, length-take-le, take-append-drop, take_all}
+use Rattle.std.proofs.lemmas.List.{get_or-set_same, get_or-set_other, length-append, length-take-le, take-append-drop}
 use Rattle.std.proofs.lemmas.List.Concat.{flat_map-append}
-use Rattle.rac_nums.specs.declared.names.Xid.{Xid}
 use Rattle.rac_nums.specs.declared.redo.Redo.{Redo}
 use Rattle.rac_disk.specs.Calls.{WhereTold}
 use Rattle.rac_disk.specs.Disk.{DiskState, IsDisk, LogState, log_at, no_log, room_at, with_log}
-use Rattle.part_image.specs.Cells.{Begins}
 use Rattle.redo_record.specs.Redo.{IsRedo, redo_bytes}
-use Rattle.redo_record.specs.Front.{BeginsWith, IsTorn, ReadsBack, AreWhole, CutReadsBack, log_bytes}
+use Rattle.redo_record.specs.Front.{IsTorn, ReadsBack, AreWhole, log_bytes}
 use Rattle.redo_record.proofs.CutLemmas.{cut_reads_back}
-use Rattle.redo_thread.specs.Thread.{ThreadState, appended, end_of, forced}
+use Rattle.redo_thread.specs.Thread.{ThreadState, appended, forced}
 use Rattle.plain_node.specs.declared.engine.Engine.{Engine}
 use Rattle.plain_node.specs.declared.node.Node.{Node}
 use Rattle.row_model.specs.declared.entry.Entry.{Entry}

@@ -1,5 +1,5 @@
 -- The records go on saying what the journal says.
-use Rattle.std.proofs.Common.{◌≡◌, ◌∙◌, ℕ, zero, suc, ◌+◌, ◌-◌, ◌<◌, ◌≤◌, ◌⊎◌, inl, inr, List, [], ◌∷◌, ◌++◌, length, take, drop, map, reverse, Option, Some, None, refl, sym, ap, subst, arith, append_assoc}
+use Rattle.std.proofs.Common.{◌≡◌, ◌∙◌, ℕ, suc, ◌+◌, ◌<◌, ◌≤◌, ◌⊎◌, inl, inr, List, [], ◌∷◌, ◌++◌, length, take, drop, map, reverse, Option, Some, None, sym, ap, subst, arith, append_assoc}
 use Rattle.std.specs.Prelude.{IsSomeAnd}
 use Rattle.std.specs.List.{AllByRecursion}
 use Rattle.std.proofs.lemmas.Bool.{cases_lt}
@@ -8,26 +8,24 @@ use Rattle.rac_nums.specs.declared.names.RowNo.{RowNo}
 use Rattle.rac_nums.specs.declared.names.Xid.{Xid}
 use Rattle.rac_nums.specs.declared.redo.Redo.{Redo}
 use Rattle.rac_nums.specs.declared.value.Value.{Value}
-use Rattle.rac_disk.specs.Calls.{WhereTold}
 use Rattle.rac_disk.specs.Disk.{DiskState, log_at}
 use Rattle.redo_record.specs.Redo.{IsRedo}
 use Rattle.redo_record.specs.Front.{AreWhole, log_bytes}
-use Rattle.redo_thread.specs.Thread.{ThreadState, appended, end_of, forced}
-use Rattle.plain_redo.specs.Records.{change_record, commit_record}
+use Rattle.redo_thread.specs.Thread.{ThreadState, appended, end_of}
+use Rattle.plain_redo.specs.Records.{change_record}
 use Rattle.log_table.specs.LogHistory.{log_history}
-use Rattle.row_model.specs.declared.entry.Entry.{Entry}
-use Rattle.row_model.specs.declared.entry.Entry.TheVariants.{Marked, Started}
+use Rattle.row_model.specs.declared.entry.Entry.TheVariants.{Started}
 use Rattle.row_model.specs.Good.{Range}
 use Rattle.row_model.specs.History.{Commit, history, history_of_past}
 use Rattle.plain_node.specs.declared.engine.Engine.{Engine}
 use Rattle.plain_node.specs.declared.node.Node.{Node}
-use Rattle.plain_node.specs.Engine.{CutAtForce, Ends, EndsCut, IsKept, IsWritten, LogsTell, MadeRoom, MaySave, next_commit, of_first}
+use Rattle.plain_node.specs.Engine.{Ends, EndsCut, IsKept, IsWritten, LogsTell, MadeRoom, MaySave, next_commit, of_first}
 use Rattle.plain_node.specs.Logged.{Logged, line_of_commit}
-use Rattle.plain_node.specs.Lost.{entered, lost, marked}
+use Rattle.plain_node.specs.Lost.{entered, marked}
 use Rattle.plain_node.specs.Runs.{IsProper, IsSound}
 use Rattle.plain_node.specs.Sound.{parts_of}
-use Rattle.plain_node.specs.Steps.{IsOwn, changed, ended_by, started}
-use Rattle.plain_node.proofs.EngineLemmas.{All-front, RoomFor, Saved, log_bytes-append, logged-room, room-for, saved-by, tells-saved, told-by, written-appended, written-forced}
+use Rattle.plain_node.specs.Steps.{IsOwn, changed, started}
+use Rattle.plain_node.proofs.EngineLemmas.{All-front, Saved, log_bytes-append, logged-room, room-for, saved-by, tells-saved, told-by, written-appended, written-forced}
 use Rattle.plain_node.proofs.LogLists.{All-append, All-first, All-second}
 use Rattle.plain_node.proofs.LogSteps.{IsLogged-commit, IsLogged-put, fronts, history-lost, logs-tell-entered, logs-tell-lost-marked}
 use Rattle.plain_node.proofs.StepLemmas.{reverse_push}

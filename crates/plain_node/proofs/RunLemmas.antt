@@ -21,7 +21,7 @@ use Rattle.rac_nums.specs.declared.names.Xid.{Xid}
 use Rattle.rac_nums.specs.declared.value.Value.{Value}
 use Rattle.plain_node.specs.declared.node.Node.{Node}
 use Rattle.plain_node.specs.Slots.{IsLeastUsed, next_xid}
-use Rattle.plain_node.specs.Steps.{IsOwn, Puts, begun, changed, commit_of, committed, started}
+use Rattle.plain_node.specs.Steps.{Puts, begun, commit_of, committed, started}
 
 -- two facts of a result that is Ok give a third
 pub on_ok_both : {T E : Type 0} {A B C : Type 0} (result : Result T E) → (A → B → C) → OnOk result A → OnOk result B → OnOk result C

@@ -1,5 +1,5 @@
 -- What the redo records that the node made have to do with its state and its journal.
-use Rattle.std.specs.Prelude.{◌≡◌, ℕ, ◌<◌, List, [], ◌∷◌, ◌++◌, reverse, map, Bool, true, false, IfSome, Some}
+use Rattle.std.specs.Prelude.{◌≡◌, ◌<◌, List, [], ◌++◌, reverse, map, false, IfSome, Some}
 use Rattle.std.specs.List.{filter_map, AllByRecursion}
 use Rattle.rac_nums.specs.declared.names.RowNo.{RowNo}
 use Rattle.rac_nums.specs.declared.names.Xid.{Xid}

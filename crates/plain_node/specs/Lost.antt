@@ -1,5 +1,5 @@
 -- What is left of the node where a fault of the disk ended it in a statement.
-use Rattle.std.specs.Prelude.{◌≡◌, ℕ, ◌+◌, ◌<◌, List, [], ◌∷◌, ◌++◌, length, All, IfSome, false}
+use Rattle.std.specs.Prelude.{ℕ, ◌+◌, ◌<◌, List, [], ◌∷◌, ◌++◌, length, All, IfSome, false}
 use Rattle.rac_nums.specs.declared.names.Xid.{Xid}
 use Rattle.row_model.specs.declared.cause.Cause.TheVariants.{Lost}
 use Rattle.row_model.specs.declared.entry.Entry.{Entry}

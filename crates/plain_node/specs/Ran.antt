@@ -6,7 +6,7 @@ use Rattle.row_model.specs.declared.entry.Entry.{Entry}
 use Rattle.script_text.specs.GoodLines.{AllAnswered}
 use Rattle.script_text.specs.ScriptParts.{ScriptParts}
 use Rattle.plain_node.specs.declared.run.Ran.{Ran}
-use Rattle.plain_node.specs.Engine.{HoldsLog, IsCalm, IsOneFault, LogsTell}
+use Rattle.plain_node.specs.Engine.{HoldsLog, IsCalm, LogsTell}
 use Rattle.plain_node.specs.Lost.{IsGoodSoFar}
 
 -- no log has a byte

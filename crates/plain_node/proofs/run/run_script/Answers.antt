@@ -1,13 +1,10 @@
 -- The engine is right at the start, and so at the end or where a fault ended it.
-use Rattle.std.proofs.Common.{◌≡◌, ◌∙◌, [], length, IfSome, ◌<◌, refl, sym, ap, arith, Some, None, false, true}
-use Rattle.std.proofs.lemmas.List.Elements.{All-nil}
-use Rattle.row_model.specs.declared.entry.Entry.{Entry}
+use Rattle.std.proofs.Common.{◌≡◌, ◌∙◌, [], refl, sym, ap, arith, None}
 use Rattle.redo_thread.specs.Thread.{ThreadState}
 use Rattle.std.specs.Prelude.{IsErrOf}
 use Rattle.script_text.specs.Reading.{items_of, joined}
 use Rattle.plain_node.specs.declared.engine.Stop.TheVariants.{Fault}
 use Rattle.plain_node.specs.Lined.{AreNext}
-use Rattle.script_text.specs.Lines.{session_in}
 use Rattle.script_text.specs.Asked.{asked}
 use Rattle.plain_node.proofs.EngineLemmas.{kept-new, kept-tells}
 use Rattle.plain_node.proofs.LineLemmas.{plain-script, all-next}

@@ -3,7 +3,7 @@ use Rattle.script_text.specs.declared.item.Item.{Item}
 use Rattle.std.proofs.Common.{ℕ, List, get_or, ◌∙◌, ◌++◌, ◌+◌, ◌≤◌, drop, length, rules, ap}
 use Rattle.std.proofs.lemmas.List.{drop_all}
 use Rattle.std.proofs.Common.{◌∷◌, [], append_assoc, append-nil, subst}
-use Rattle.plain_node.specs.Lined.{last_line, IsRight}
+use Rattle.plain_node.specs.Lined.{IsRight}
 use Rattle.plain_node.proofs.LineLemmas.{drop-item}
 use Rattle.plain_node.proofs.run.run_wave.Goals as goal
 

@@ -1,4 +1,4 @@
-use Rattle.std.proofs.Common.{◌≡◌, ◌∙◌, ap, inl, inr, refl, sym}
+use Rattle.std.proofs.Common.{◌∙◌, ap, inr, refl}
 use Rattle.plain_node.specs.declared.node.Node.{Node}
 use Rattle.plain_node.specs.Lost.{entered, marked}
 use Rattle.plain_node.specs.Steps.{finished}
