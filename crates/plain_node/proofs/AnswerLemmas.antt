@@ -13,18 +13,18 @@ use Rattle.plain_node.specs.declared.node.Node.{Node}
 use Rattle.plain_node.specs.Engine.{IsCutCommit, IsCutLine, LogsTell}
 use Rattle.plain_node.specs.Lined.{IsNext, IsRight, last_line}
 use Rattle.plain_node.specs.Logged.{line_of_commit}
-use Rattle.plain_node.specs.Lost.{IsGoodSoFar, lost}
+use Rattle.plain_node.specs.Lost.{IsLostSoFar, lost}
 use Rattle.plain_node.specs.Runs.{IsPlain}
 use Rattle.plain_node.proofs.LogSteps.{history-lost}
 use Rattle.plain_node.proofs.LostLemmas.{lost-entered, lost-marked, lost-started}
 
 module _ (parts : ScriptParts) (done : List (ℕ × Item)) (old : Node) (n : ℕ) (home : is_some old.home ≡ true) (right : IsRight parts done old) where
-  lost-commit : (now : Node) → IsNext parts done (last_line 0 done) (n, Statement 0 CommitStmt) → IsCutCommit old n 0 now → IsGoodSoFar parts (lost now n).journal
+  lost-commit : (now : Node) → IsNext parts done (last_line 0 done) (n, Statement 0 CommitStmt) → IsCutCommit old n 0 now → IsLostSoFar parts (lost now n).journal
   lost-commit now next (x, own, inl is) = rw is (lost-started parts done old n CommitStmt next home right)
   lost-commit now next (x, own, inr (inl is)) = rw is (lost-marked parts done old n CommitStmt next home right x own)
   lost-commit now next (x, own, inr (inr is)) = rw is (lost-entered parts done old n CommitStmt next home right x own)
 
-  lost-stmt : (session : ℕ) (what : Stmt) (now : Node) → session ≡ 0 → IsNext parts done (last_line 0 done) (n, Statement session what) → IsCutLine old n (Statement session what) now → IsGoodSoFar parts (lost now n).journal
+  lost-stmt : (session : ℕ) (what : Stmt) (now : Node) → session ≡ 0 → IsNext parts done (last_line 0 done) (n, Statement session what) → IsCutLine old n (Statement session what) now → IsLostSoFar parts (lost now n).journal
   lost-stmt session (Get row) now zero next cut = absurd cut
   lost-stmt session (Scan first last) now zero next cut = absurd cut
   lost-stmt session (Put row value) now zero next cut =
@@ -38,7 +38,7 @@ module _ (parts : ScriptParts) (done : List (ℕ × Item)) (old : Node) (n : ℕ
   lost-stmt session (RollbackTo name) now zero next cut = absurd cut
 
 pub lost-line : (parts : ScriptParts) (done : List (ℕ × Item)) (old now : Node) (n : ℕ) (item : Item) → IsPlain (is_some old.home) item → IsRight parts done old
-    → IsNext parts done (last_line 0 done) (n, item) → IsCutLine old n item now → IsGoodSoFar parts (lost now n).journal
+    → IsNext parts done (last_line 0 done) (n, item) → IsCutLine old n item now → IsLostSoFar parts (lost now n).journal
 lost-line parts done old now n (Session session inst) plain right next cut = absurd cut
 lost-line parts done old now n (Statement session what) plain right next cut = lost-stmt parts done old n plain.1 right session what now plain.0 next cut
 lost-line parts done old now n (CrashAfter inst steps keep) plain right next cut = absurd cut

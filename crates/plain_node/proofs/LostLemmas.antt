@@ -1,5 +1,5 @@
 -- Where a fault of the disk ended the instance in a statement, the journal is good so far.
-use Rattle.std.proofs.Common.{◌≡◌, ℕ, ◌+◌, ◌<◌, List, [], ◌∷◌, ◌++◌, All, Option, Some, None, IfSome, IsSome, true, false, is_some, length, map, reverse, refl, ap, arith}
+use Rattle.std.proofs.Common.{◌≡◌, ℕ, ◌+◌, ◌<◌, Bool, false, List, [], ◌∷◌, ◌++◌, All, Option, Some, None, IfSome, IsSome, true, false, is_some, length, map, reverse, refl, ap, arith}
 use Rattle.std.specs.Option.{option_and_then}
 use Rattle.std.proofs.lemmas.Bool.{eq-eqb}
 use Rattle.std.proofs.lemmas.List.Elements.{All-push}
@@ -27,7 +27,8 @@ use Rattle.plain_node.specs.declared.node.Node.{Node}
 use Rattle.plain_node.specs.Steps.{version_at, started}
 use Rattle.plain_node.specs.Sound.{Parts, Sound, Proper, parts_of}
 use Rattle.plain_node.specs.Lined.{Lined, last_line, IsNext, IsRight}
-use Rattle.plain_node.specs.Lost.{marked, entered, lost, IsGoodSoFar}
+use Rattle.plain_node.specs.Lost.{marked, entered, lost, IsLostSoFar}
+use Rattle.plain_node.specs.Ends.{ends_in}
 use Rattle.plain_node.proofs.StepLemmas.{reverse_push}
 use Rattle.plain_node.proofs.SoundLemmas.{Sound-started, Sound-committed}
 use Rattle.plain_node.proofs.ProperLemmas.{Proper-started, Proper-committed, Replays-older}
@@ -114,11 +115,11 @@ module _ (rows_of : ℕ → Option Range) where
 module _ (parts : ScriptParts) where
   -- the fault's two entries behind a journal in which the statement has started
   so-far-lost : (journal : List Entry) (past : Past) (n : ℕ) (what : Stmt) → reverse journal ≡ past
-      → stmt_at parts n ≡ Some (0, what) → last_answer parts 0 past < n → IsSome (start_of n past)
+      → stmt_at parts n ≡ Some (0, what) → last_answer parts 0 past < n → IsSome (start_of n past) → ends_in past ≡ []
       → All (IsKnown parts) journal → Each (LineIsProper parts) past → GoodPast (asked parts) past
-      → IsGoodSoFar parts ((journal ++ Ended (record { 0 = 0 }) false ∷ []) ++ Refused n Lost ∷ [])
-  so-far-lost journal past n what same asks later start named lines good =
-      record {
+      → IsLostSoFar parts ((journal ++ Ended (record { 0 = 0 }) false ∷ []) ++ Refused n Lost ∷ [])
+  so-far-lost journal past n what same asks later start unended named lines good =
+      record { good = record {
         named = All-push (IsKnown parts) (journal ++ Ended (record { 0 = 0 }) false ∷ []) (Refused n Lost)
             (All-push (IsKnown parts) journal (Ended (record { 0 = 0 }) false) named tt) tt;
         lines = rw all ((rw asks (later, start, refusal-answers parts 0 n (Ended (record { 0 = 0 }) false ∷ past) what), tt), ((tt, tt), lines));
@@ -129,7 +130,7 @@ module _ (parts : ScriptParts) where
         starts = rw all good2.starts;
         row_locks = rw all good2.row_locks;
         replay = rw all good2.replay;
-      }
+      }; ends = rw all (ap (λ (ends : List (InstNo × Bool)). (record { 0 = 0 }, false) ∷ ends) unended); }
     where
       all : reverse ((journal ++ Ended (record { 0 = 0 }) false ∷ []) ++ Refused n Lost ∷ []) ≡ Refused n Lost ∷ Ended (record { 0 = 0 }) false ∷ past
       all = rw (reverse_push (journal ++ Ended (record { 0 = 0 }) false ∷ []) (Refused n Lost), reverse_push journal (Ended (record { 0 = 0 }) false), same) refl
@@ -168,8 +169,8 @@ module _ (parts : ScriptParts) (done : List (ℕ × Item)) (node : Node) (n : �
   named = All-push (IsKnown parts) node.journal (Started n 0 node.known) right.named next.names
 
   -- as the statement starts
-  pub lost-started : IsGoodSoFar parts (lost (started node n 0) n).journal
-  lost-started = so-far-lost parts (started node n 0).journal past n what (reverse_push node.journal (Started n 0 node.known)) asks later start named lined.lines good
+  pub lost-started : IsLostSoFar parts (lost (started node n 0) n).journal
+  lost-started = so-far-lost parts (started node n 0).journal past n what (reverse_push node.journal (Started n 0 node.known)) asks later start proper.unended named lined.lines good
 
   -- with the own transaction
   module _ (x : Xid) (own_is : node.own ≡ Some x) where
@@ -186,9 +187,9 @@ module _ (parts : ScriptParts) (done : List (ℕ × Item)) (node : Node) (n : �
     past-marked = rw (reverse_push (started node n 0).journal (Marked n x c), reverse_push node.journal (Started n 0 node.known)) refl
 
     -- once it was marked
-    pub lost-marked : IsGoodSoFar parts (lost (marked (started node n 0) n x) n).journal
+    pub lost-marked : IsLostSoFar parts (lost (marked (started node n 0) n x) n).journal
     lost-marked =
-        so-far-lost parts (marked (started node n 0) n x).journal (Marked n x c ∷ past) n what past-marked asks later start named-marked ((tt, tt), lined.lines)
+        so-far-lost parts (marked (started node n 0) n x).journal (Marked n x c ∷ past) n what past-marked asks later start proper.unended named-marked ((tt, tt), lined.lines)
         (good-marked (asked parts) past n x c own_new.1 good)
 
     -- the state once the commit is answered
@@ -203,9 +204,9 @@ module _ (parts : ScriptParts) (done : List (ℕ × Item)) (node : Node) (n : �
         (Proper-committed (asked parts) 0 past (parts_of node) over n x c (record { 0 = 0 }) own_is refl refl refl refl refl (λ k. refl) sound proper))
 
     -- once its commit record is on the disk
-    pub lost-entered : IsGoodSoFar parts (lost (entered (marked (started node n 0) n x) x) n).journal
+    pub lost-entered : IsLostSoFar parts (lost (entered (marked (started node n 0) n x) x) n).journal
     lost-entered =
         so-far-lost parts (entered (marked (started node n 0) n x) x).journal (Committed x c (record { 0 = 0 }) ∷ Marked n x c ∷ past) n what
-        (rw (reverse_push (marked (started node n 0) n x).journal (Committed x c (record { 0 = 0 })), past-marked) refl) asks later start
+        (rw (reverse_push (marked (started node n 0) n x).journal (Committed x c (record { 0 = 0 })), past-marked) refl) asks later start proper.unended
         (All-push (IsKnown parts) (marked (started node n 0) n x).journal (Committed x c (record { 0 = 0 })) named-marked tt)
         ((tt, tt), ((tt, tt), lined.lines)) good-entered

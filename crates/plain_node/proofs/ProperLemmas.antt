@@ -74,6 +74,7 @@ module _ (asked : ℕ → Option Range) (z : ℕ) where
         acknowledgements = (tt, proper.acknowledgements);
         starts = (tt, proper.starts);
         row_locks = (tt, proper.row_locks);
+        unended = proper.unended;
       }
 
   pub Proper-started : (past : Past) (node : Parts) (n : ℕ) (s : Scn) → s.0 ≡ node.known → is_some node.home ≡ true
@@ -94,6 +95,7 @@ module _ (asked : ℕ → Option Range) (z : ℕ) where
         acknowledgements = (tt, proper.acknowledgements);
         starts = ((let le = proper.acked in omega arith, (let a = started_up_to-le z past in let b = sound.starts in omega arith), by_home node.home opened proper.home proper.at_home), proper.starts);
         row_locks = (tt, proper.row_locks);
+        unended = proper.unended;
       }
     where
       by_home : (o : Option InstNo) → is_some o ≡ true → home_of z past ≡ option_map (λ i. i.0) o → IfSome o (λ i. i.0 ≡ 0)
@@ -118,6 +120,7 @@ module _ (asked : ℕ → Option Range) (z : ℕ) where
         acknowledgements = (tt, proper.acknowledgements);
         starts = (tt, proper.starts);
         row_locks = (tt, proper.row_locks);
+        unended = proper.unended;
       }
 
   pub Proper-plain : (past : Past) (node : Parts) (n : ℕ) → Proper z past node → Proper z (Plain n ∷ past) node
@@ -137,6 +140,7 @@ module _ (asked : ℕ → Option Range) (z : ℕ) where
         acknowledgements = (tt, proper.acknowledgements);
         starts = (tt, proper.starts);
         row_locks = (tt, proper.row_locks);
+        unended = proper.unended;
       }
 
   -- a change by x, which is the own transaction by then
@@ -167,6 +171,7 @@ module _ (asked : ℕ → Option Range) (z : ℕ) where
         acknowledgements = (tt, proper.acknowledgements);
         starts = (tt, proper.starts);
         row_locks = ((λ y h. only y (both_true (is_open y past) (list_any (λ deed. row_of deed == row.0) (standing y past)) h).0), proper.row_locks);
+        unended = proper.unended;
       }
     where
       all : changes_up_to s (history_of_past past) ≡ changes_in (history_of_past past)
@@ -201,6 +206,7 @@ module _ (asked : ℕ → Option Range) (z : ℕ) where
         acknowledgements = ((marked_by, committed), (tt, (tt, proper.acknowledgements)));
         starts = (tt, (tt, (tt, proper.starts)));
         row_locks = (tt, (tt, (tt, proper.row_locks)));
+        unended = proper.unended;
       }
     where
       own_new : (x.seg.0 ≡ 0) × (stood (is_commit x) past ≡ false)

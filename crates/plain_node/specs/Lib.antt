@@ -5,6 +5,7 @@ pub mod Sound
 pub mod Runs
 pub mod Lined
 pub mod Logged
+pub mod Ends
 pub mod Lost
 pub mod Engine
 pub mod Ran

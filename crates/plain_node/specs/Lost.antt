@@ -1,5 +1,5 @@
 -- What is left of the node where a fault of the disk ended it in a statement.
-use Rattle.std.specs.Prelude.{ℕ, ◌+◌, ◌<◌, List, [], ◌∷◌, ◌++◌, length, All, IfSome, false}
+use Rattle.std.specs.Prelude.{ℕ, ◌+◌, ◌<◌, List, [], ◌∷◌, ◌++◌, length, reverse, All, IfSome, false, ◌≡◌}
 use Rattle.rac_nums.specs.declared.names.Xid.{Xid}
 use Rattle.row_model.specs.declared.cause.Cause.TheVariants.{Lost}
 use Rattle.row_model.specs.declared.entry.Entry.{Entry}
@@ -10,6 +10,7 @@ use Rattle.script_text.specs.GoodLines.{GoodLines}
 use Rattle.script_text.specs.Lines.{session_in}
 use Rattle.script_text.specs.ScriptParts.{ScriptParts}
 use Rattle.plain_node.specs.declared.node.Node.{Node}
+use Rattle.plain_node.specs.Ends.{ends_in, fault_end}
 use Rattle.plain_node.specs.Steps.{told}
 
 -- the transaction was marked at the next SCN
@@ -36,3 +37,8 @@ pub record IsGoodSoFar (parts : ScriptParts) (journal : List Entry) : Type 0 whe
   pub starts : GoodStarts journal
   pub row_locks : GoodRowLocks journal
   pub replay : GoodReplay journal
+
+-- The journal of a run that a fault ended is good so far, and that fault is the one end of an instance in it.
+pub record IsLostSoFar (parts : ScriptParts) (journal : List Entry) : Type 0 where
+  pub good : IsGoodSoFar parts journal
+  pub ends : ends_in (reverse journal) ≡ fault_end

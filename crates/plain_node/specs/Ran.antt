@@ -1,11 +1,12 @@
 -- What a run over a disk leaves.
-use Rattle.std.specs.Prelude.{◌≡◌, ◌≤◌, ◌⊎◌, ℕ, List, [], length, true, false, Option, IsSomeAnd}
+use Rattle.std.specs.Prelude.{◌≡◌, ◌≤◌, ◌⊎◌, ℕ, List, [], length, reverse, if◌then◌else◌, true, false, Option, IsSomeAnd}
 use Rattle.rac_io.specs.Counts.{Rose}
 use Rattle.rac_disk.specs.Disk.{DiskState}
 use Rattle.row_model.specs.declared.entry.Entry.{Entry}
 use Rattle.script_text.specs.GoodLines.{AllAnswered}
 use Rattle.script_text.specs.ScriptParts.{ScriptParts}
 use Rattle.plain_node.specs.declared.run.Ran.{Ran}
+use Rattle.plain_node.specs.Ends.{ends_in, fault_end}
 use Rattle.plain_node.specs.Engine.{HoldsLog, IsCalm, LogsTell}
 use Rattle.plain_node.specs.Lost.{IsGoodSoFar}
 
@@ -20,6 +21,7 @@ pub record IsRan (parts : ScriptParts) (faults faults_now full full_now : ℕ) (
   pub calm : ran.faulted ≡ false → IsCalm faults faults_now full full_now
   pub cause : ran.faulted ≡ true → Rose faults faults_now ⊎ Rose full full_now
   pub ended : ran.faulted ≡ true → 1 ≤ length ran.journal
+  pub ends : ends_in (reverse ran.journal) ≡ if ran.faulted then fault_end else []
 
 -- The logs on the disk, which were empty, tell the history of the journal, where one call failed at most.
 abbrev pub Tells : Option DiskState → Option DiskState → Type 0 → List Entry → Type 0

@@ -15,6 +15,7 @@ use Rattle.plain_node.specs.declared.node.Node.{Node}
 use Rattle.plain_node.specs.declared.slots.SlotUse.{SlotUse}
 use Rattle.plain_node.specs.declared.versions.Pending.{Pending}
 use Rattle.plain_node.specs.declared.versions.Version.{Version}
+use Rattle.plain_node.specs.Ends.{ends_in}
 use Rattle.plain_node.specs.Slots.{wrap_at}
 use Rattle.plain_node.specs.Steps.{version_at}
 
@@ -79,3 +80,4 @@ pub record Proper (z : ℕ) (past : Past) (node : Parts) : Type 0 where
   pub acknowledgements : Each AckIsProper past
   pub starts : Each StartIsProper past
   pub row_locks : Each RowIsFree past
+  pub unended : ends_in past ≡ []

@@ -8,7 +8,7 @@ ghost use Rattle.script_text.specs.WellFormed.{IsWellFormed};
 ghost use Rattle.script_text.specs.Asked.{range_asked, asked};
 ghost use Rattle.plain_node.specs.Lined.{IsLined, IsNext, AreNext, IsRight, NamesBelow, last_line};
 ghost use Rattle.plain_node.specs.Engine.{CanGo, IsCalm, IsCutLine, IsKept, IsOneFault, LogsTell};
-ghost use Rattle.plain_node.specs.Lost.{IsGoodSoFar};
+ghost use Rattle.plain_node.specs.Lost.{IsLostSoFar};
 ghost use Rattle.plain_node.specs.Ran.{IsRan, Tells};
 ghost use Rattle.plain_node.specs.Runs.{CanRun, IsSound, IsProper, IsNamed};
 
@@ -82,7 +82,7 @@ fn answer<D: SharedDisk>(
         IsKept (D.state disk.old) engine.old → IsKept (D.state disk.new) engine.new) }
     ensures calm { OnOk result (IsCalm (D.faults disk.old) (D.faults disk.new) (D.full disk.old) (D.full disk.new)) }
     ensures lost { IsErrOf result Stop.Fault → (parts : ScriptParts) (done : List (ℕ × Item)) → IsNext parts done (last_line 0 done) (line, item.now) →
-        IsRight parts done engine.old.node → IsGoodSoFar parts engine.new.node.journal }
+        IsRight parts done engine.old.node → IsLostSoFar parts engine.new.node.journal }
     ensures tells { IsErrOf result Stop.Fault → (parts : ScriptParts) (done : List (ℕ × Item)) → IsRight parts done engine.old.node →
         IsKept (D.state disk.old) engine.old → IsOneFault (D.faults disk.old) (D.faults disk.new) (D.full disk.old) (D.full disk.new) →
         IsSomeAnd (D.state disk.new) (λ it. LogsTell it engine.new.node.journal) }
@@ -113,7 +113,7 @@ fn run_wave<D: SharedDisk>(
         × (IsKept (D.state disk.old) engine.old → IsKept (D.state disk.new) engine.new)) }
     ensures calm { OnOk result (IsCalm (D.faults disk.old) (D.faults disk.new) (D.full disk.old) (D.full disk.new)) }
     ensures lost { IsErrOf result Stop.Fault → (parts : ScriptParts) (done : List (ℕ × Item)) → AreNext parts done wave.now →
-        IsRight parts done engine.old.node → IsGoodSoFar parts engine.new.node.journal
+        IsRight parts done engine.old.node → IsLostSoFar parts engine.new.node.journal
         × (IsKept (D.state disk.old) engine.old → IsOneFault (D.faults disk.old) (D.faults disk.new) (D.full disk.old) (D.full disk.new) →
         IsSomeAnd (D.state disk.new) (λ it. LogsTell it engine.new.node.journal)) }
     ensures cause { IsErrOf result Stop.Fault → Rose (D.faults disk.old) (D.faults disk.new) ⊎ Rose (D.full disk.old) (D.full disk.new) }
@@ -138,7 +138,7 @@ fn run_waves<D: SharedDisk>(
         × (IsKept (D.state disk.old) engine.old → IsKept (D.state disk.new) engine.new)) }
     ensures calm { OnOk result (IsCalm (D.faults disk.old) (D.faults disk.new) (D.full disk.old) (D.full disk.new)) }
     ensures lost { IsErrOf result Stop.Fault → (parts : ScriptParts) → AreNext parts [] (joined waves.now) →
-        IsRight parts [] engine.old.node → IsGoodSoFar parts engine.new.node.journal
+        IsRight parts [] engine.old.node → IsLostSoFar parts engine.new.node.journal
         × (IsKept (D.state disk.old) engine.old → IsOneFault (D.faults disk.old) (D.faults disk.new) (D.full disk.old) (D.full disk.new) →
         IsSomeAnd (D.state disk.new) (λ it. LogsTell it engine.new.node.journal)) }
     ensures cause { IsErrOf result Stop.Fault → Rose (D.faults disk.old) (D.faults disk.new) ⊎ Rose (D.full disk.old) (D.full disk.new) }

@@ -6,7 +6,7 @@ use Rattle.script_text.specs.Asked.{asked, range_asked}
 use Rattle.plain_node.specs.declared.node.Node.{Node}
 use Rattle.plain_node.specs.Engine.{LogsTell}
 use Rattle.plain_node.specs.Lined.{last_line}
-use Rattle.plain_node.specs.Lost.{IsGoodSoFar}
+use Rattle.plain_node.specs.Lost.{IsLostSoFar}
 use Rattle.plain_node.proofs.AnswerLemmas.{lost-line, tells-lost}
 use Rattle.plain_node.proofs.LineLemmas.{last_line-push}
 use Rattle.plain_node.proofs.run.answer.Goals as goal
@@ -25,7 +25,7 @@ returns-in-Ok-clause-kept g c = λ parts done right kept. c.in-Ok.ensures.kept (
 
 pub returns-in_ok-lose-in-Err-Fault-clause-lost : goal.returns-in_ok-lose-in-Err-Fault-clause-lost
 returns-in_ok-lose-in-Err-Fault-clause-lost g c = λ fault parts done next right.
-    subst (λ (it : Node). IsGoodSoFar parts it.journal) (sym c.in_ok-lose-in-Err-Fault.ensures)
+    subst (λ (it : Node). IsLostSoFar parts it.journal) (sym c.in_ok-lose-in-Err-Fault.ensures)
     (lost-line parts done c.args.engine.now.node c.try_answer.new.engine.node c.args.line c.args.item.now c.requires.1.runs.2.2 right next (c.in-Err-Fault.ensures.cut (rw c.in-Err-Fault.field-0-is fault)))
 
 pub returns-in_ok-lose-in-Err-Fault-clause-tells : goal.returns-in_ok-lose-in-Err-Fault-clause-tells

@@ -31,6 +31,7 @@ returns-in-Ok-clause-ran g c =
       calm = λ calm. c.in-Ok.ensures.calm;
       cause = λ faulted. absurd (cc faulted);
       ended = λ faulted. absurd (cc faulted);
+      ends = went.0.proper.unended;
     }
 
 pub returns-in-Ok-clause-tells : goal.returns-in-Ok-clause-tells
@@ -50,11 +51,12 @@ returns-in-Err-Fault-clause-ran g c =
     let fault : IsErrOf c.run_waves.result Fault = rw (c.in-Err-Fault.is, c.in-Err-Fault.field-0-is) refl in
     let lost = c.run_waves.ensures.lost fault parts next (right-new parts c.in_ok-engine.engine.node new.journal (new.sound (asked parts)) new.proper) in
     record {
-      good = lost.0;
+      good = lost.0.good;
       answered = λ calm. absurd (cc calm);
       calm = λ calm. absurd (cc calm);
       cause = λ faulted. c.run_waves.ensures.cause fault;
       ended = λ faulted. c.run_waves.ensures.ended fault;
+      ends = lost.0.ends;
     }
 
 pub returns-in-Err-Fault-clause-tells : goal.returns-in-Err-Fault-clause-tells

@@ -1,0 +1,20 @@
+-- The ends of instances that a journal tells.
+use Rattle.std.specs.Prelude.{List, [], ◌∷◌, Bool, false, Option, None, Some}
+use Rattle.std.specs.List.{filter_map}
+use Rattle.rac_nums.specs.declared.names.InstNo.{InstNo}
+use Rattle.row_model.specs.declared.entry.Entry.{Entry}
+use Rattle.row_model.specs.declared.entry.Entry.TheVariants.{Ended}
+use Rattle.row_model.specs.Past.{Past}
+
+-- an instance that an entry ends, and whether a bad block ended it
+abbrev pub end_by : Entry → Option (InstNo × Bool)
+end_by (Ended i bad) = Some (i, bad)
+end_by _ = None
+
+-- The instances that ended, the last end first, and whether a bad block ended them.
+abbrev pub ends_in : Past → List (InstNo × Bool)
+ends_in past = filter_map end_by past
+
+-- the end of the one instance by a fault of the disk
+abbrev pub fault_end : List (InstNo × Bool)
+fault_end = (record { 0 = 0 }, false) ∷ []
