@@ -1,0 +1,4 @@
+pub mod Blocks
+pub mod Headers
+pub mod Parts
+pub mod UndoBlocks
