@@ -22,7 +22,8 @@ rule_text rules.Twice = codes "twice"
 abbrev pub status_text : ℕ → Option (List ℕ)
 status_text status =
     if status == 4 then Some (codes "read fault")
-    else (if status == 5 then Some (codes "write fault") else (if status == 7 then Some (codes "no memory") else None))
+    else (if status == 5 then Some (codes "write fault")
+    else (if status == 6 then Some (codes "disk fault") else (if status == 7 then Some (codes "no memory") else None)))
 
 -- the line that is told of an exit; none where all was read, run and written
 abbrev pub note_text : Note → ℕ → Option (List ℕ)

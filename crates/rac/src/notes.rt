@@ -31,12 +31,14 @@ fn status_line(alloc: Global, status: u8) -> Result<Option<String>, AllocError>
     match status {
         4 => Ok(Some(String::from_str(alloc, "read fault")?)),
         5 => Ok(Some(String::from_str(alloc, "write fault")?)),
+        6 => Ok(Some(String::from_str(alloc, "disk fault")?)),
         7 => Ok(Some(String::from_str(alloc, "no memory")?)),
         _ => Ok(None),
     }
 }
 
-/// The line that standard error gets: why nothing, or not all, was written. `None` where all was.
+/// The line that standard error gets: why nothing was written, or not all, or what ended the run. `None`
+/// where all was well.
 pub fn note_line(alloc: Global, exit: &Exit) -> Result<Option<String>, AllocError>
     ensures { IfOk result (λ line. option_map string_bytes line ≡ note_text exit.now.note exit.now.status) }
 {

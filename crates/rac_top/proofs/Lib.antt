@@ -1,2 +1,3 @@
 pub mod ReadingLemmas
 pub mod ExitLemmas
+pub mod CreationLemmas

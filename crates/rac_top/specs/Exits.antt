@@ -1,11 +1,12 @@
 -- What the exits of the top call say.
-use Rattle.std.specs.Prelude.{◌≡◌, ℕ, List, [], Bool, true, ◌==◌, ◌||◌, Option, Some, Ok, Err}
+use Rattle.std.specs.Prelude.{◌≡◌, ◌≢◌, ◌⊎◌, ℕ, List, [], Bool, true, ◌==◌, ◌||◌, if◌then◌else◌, Option, Some, Ok, Err}
 use Rattle.std.specs.Io.KnownBytes.{Appends}
 use Rattle.rac_io.specs.Write.{AppendsPart}
 use Rattle.row_model.specs.declared.entry.Entry.{Entry}
 use Rattle.script_text.specs.ScriptParts.{ScriptParts}
 use Rattle.script_text.specs.Reading.{reading}
 use Rattle.run_report.specs.Reports.{report_text}
+use Rattle.plain_node.specs.declared.run.Ran.{Ran}
 use Rattle.rac_top.specs.declared.exit.Exit.{Exit}
 use Rattle.rac_top.specs.declared.exit.Note.{Note}
 use Rattle.rac_top.specs.declared.exit.Note.TheVariants.{Nothing, Usage, Line}
@@ -22,9 +23,25 @@ exit_unread unread.NoMemory = record { status = 7; note = Nothing; journal = [] 
 abbrev pub is_without_run : ℕ → Bool
 is_without_run status = status == 2 || status == 3 || status == 4 || status == 7
 
+-- the statuses at which the disk was not touched
+abbrev pub is_before_disk : ℕ → Bool
+is_before_disk status = status == 2 || status == 3 || status == 4
+
 -- the statuses that say all by themselves
 abbrev pub is_plain : ℕ → Bool
-is_plain status = status == 0 || status == 4 || status == 5 || status == 7
+is_plain status = status == 0 || status == 4 || status == 5 || status == 6 || status == 7
+
+-- the exits at which a run's report was written whole: all was well, or a fault of the disk ended the run
+abbrev pub IsReported : Exit → Type 0
+IsReported exit = (exit.status ≡ 0) ⊎ ((exit.status ≡ 6) × (exit.journal ≢ []))
+
+-- the exits with a run: its report was written, whole or in part
+abbrev pub HasRun : Exit → Type 0
+HasRun exit = IsReported exit ⊎ (exit.status ≡ 5)
+
+-- the exit of a run whose report was written whole
+abbrev pub exit_of : Ran → Exit
+exit_of ran = record { status = if ran.faulted then 6 else 0; note = Nothing; journal = ran.journal }
 
 -- a note stands beside its own status
 abbrev pub NoteFits : Note → ℕ → Type 0

@@ -1,5 +1,6 @@
 pub mod Words
 pub mod Runs
+pub mod Creation
 pub mod Exits
 pub mod Refusals
 pub mod ControlLines

@@ -1,10 +1,7 @@
 -- What the top call's answers say.
-use Rattle.std.specs.Prelude.{◌≡◌, List, Result, Ok, Err}
-use Rattle.row_model.specs.declared.entry.Entry.{Entry}
-use Rattle.script_text.specs.GoodLines.{AllAnswered}
+use Rattle.std.specs.Prelude.{◌≡◌, Result, Ok, Err}
 use Rattle.script_text.specs.ScriptParts.{ScriptParts}
 use Rattle.script_text.specs.Reading.{Refusal}
-use Rattle.rac_top.specs.Good.{GoodStatements}
 use Rattle.rac_top.specs.declared.reading.Unread.{Unread}
 use Rattle.rac_top.specs.declared.reading.Unread.TheVariants.{Fault, Line, NoMemory}
 
@@ -18,8 +15,3 @@ IsUnread NoMemory said = Unit {0}
 abbrev pub Says : Result ScriptParts Unread → Result ScriptParts Refusal → Type 0
 Says (Ok script) said = said ≡ Ok script
 Says (Err why) said = IsUnread why said
-
--- the journal of a run of a script is good, as far as its clauses speak of what the run can do
-pub record IsGoodRun (parts : ScriptParts) (journal : List Entry) : Type 0 where
-  pub statements : GoodStatements parts journal
-  pub answered : AllAnswered parts journal

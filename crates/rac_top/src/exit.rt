@@ -15,9 +15,10 @@ pub enum Note {
 #[derive(Debug, Drop)]
 pub struct Exit {
     /// 0: all was read to its end, run and written. 2: the words are none that the program knows. 3: the script
-    /// is refused. 4: the source failed. 5: the sink failed, or took nothing. 7: memory ran out.
+    /// is refused. 4: the source failed. 5: the sink failed, or took nothing. 6: the disk failed, before the run
+    /// or in it. 7: memory ran out.
     pub status: u8,
     pub note: Note,
-    /// The journal of the run; empty where there was none.
+    /// The journal of the run, as far as it went; empty where there was none.
     pub journal: Journal,
 }

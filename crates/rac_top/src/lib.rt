@@ -1,6 +1,7 @@
-//! The top call: it does all that the program does, over a source and a sink that are handed in.
+//! The top call: it does all that the program does, over a source, a sink and a disk that are handed in.
 #![tactic(auto)]
 
+mod creation;
 mod exit;
 mod reading;
 mod running;

@@ -1,29 +1,38 @@
-ghost use Rattle.std.specs.Prelude.{◌≡◌, IfOk};
+ghost use Rattle.std.specs.Prelude.{◌≡◌, ◌≢◌, [], true, IfOk};
 ghost use Rattle.script_text.specs.WellFormed.{IsWellFormed};
 ghost use Rattle.run_report.specs.Reports.{report_text};
-ghost use Rattle.rac_top.specs.Runs.{IsGoodRun};
+ghost use Rattle.plain_node.specs.Engine.{IsOneFault};
+ghost use Rattle.plain_node.specs.Ran.{IsRan, Tells};
 
-use plain_node::run_script;
+use plain_node::{Ran, run_script};
+use rac_disk::SharedDisk;
 use rac_nums::NoMemory;
-use row_model::Journal;
 use run_report::report;
 use script_text::Script;
 use std::alloc::Global;
 
-/// What a run leaves.
+/// A run, and its report.
 #[derive(Drop)]
 pub struct Run {
-    pub journal: Journal,
+    pub ran: Ran,
     pub report: Vec<u8>,
 }
 
-/// Runs a script and reports the run.
-pub fn run_and_report(alloc: Global, script: &Script, with_journal: bool) -> Result<Run, NoMemory>
+/// Runs a script over a disk whose logs are empty, and reports the run, also one that a fault of the disk ended.
+pub fn run_and_report<D: SharedDisk>(
+    alloc: Global,
+    script: &Script,
+    with_journal: bool,
+    disk: &mut D,
+) -> Result<Run, NoMemory>
     requires { IsWellFormed script.now }
-    ensures good { IfOk result (λ run. IsGoodRun script.now run.journal) }
-    ensures report { IfOk result (λ run. run.report.items ≡ report_text script.now run.journal with_journal) }
+    ensures ran { IfOk result (λ run. IsRan script.now (D.faults disk.old) (D.faults disk.new) (D.full disk.old) (D.full disk.new) run.ran) }
+    ensures ended { IfOk result (λ run. run.ran.faulted ≡ true → run.ran.journal ≢ []) }
+    ensures tells { IfOk result (λ run. Tells (D.state disk.old) (D.state disk.new)
+        (IsOneFault (D.faults disk.old) (D.faults disk.new) (D.full disk.old) (D.full disk.new)) run.ran.journal) }
+    ensures report { IfOk result (λ run. run.report.items ≡ report_text script.now run.ran.journal with_journal) }
 {
-    let journal = run_script(alloc, script)?;
-    let report = report(alloc, script, &journal, with_journal)?;
-    Ok(Run { journal, report })
+    let ran = run_script(alloc, script, disk)?;
+    let report = report(alloc, script, &ran.journal, with_journal)?;
+    Ok(Run { ran, report })
 }

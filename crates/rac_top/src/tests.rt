@@ -1,10 +1,11 @@
 use crate::{Exit, Note, rac};
+use rac_disk::{CallKind, MemDisk, Planned};
 use rac_io::{MemSink, MemSource};
 use script_text::Rule;
 use std::test::Fail;
 
-/// A call: its words, its script, the reads that fail, the room of its sink and the writes that fail; and how it
-/// ends, with what is written.
+/// A call: its words, its script, the reads that fail, the room of its sink and the writes that fail, the room of
+/// each log and the calls of the disk that fail; and how it ends, with what is written.
 #[derive(Clone, Copy)]
 struct Case<'a> {
     words: &'a [&'a str],
@@ -12,6 +13,8 @@ struct Case<'a> {
     read_fails: &'a [u32],
     room: usize,
     write_fails: &'a [u32],
+    log_bytes: u64,
+    disk_fails: &'a [Planned],
     status: u8,
     note: Note,
     written: &'a str,
@@ -23,12 +26,28 @@ const RUN: Case<'static> = Case {
     read_fails: &[],
     room: 1000,
     write_fails: &[],
+    log_bytes: 65_536,
+    disk_fails: &[],
     status: 0,
     note: Note::Nothing,
     written: "",
 };
 
 const FIRST: &str = "instances 1\nsession a on 0\na: put 3 42\na: commit\na: get 3\n";
+
+const SECOND: &str = "instances 1\nsession a on 0\na: put 0 1\na: commit\na: get 0\n";
+
+const PART_OF_AN_APPEND: Planned = Planned {
+    what: CallKind::Append,
+    nth: 1,
+    keep: 7,
+};
+
+const FIRST_CUT: Planned = Planned {
+    what: CallKind::Cut,
+    nth: 1,
+    keep: 0,
+};
 
 fn call(rt: &HostRuntime, case: &Case) -> Result<(Exit, MemSink), Fail> {
     let alloc = rt.alloc();
@@ -41,7 +60,8 @@ fn call(rt: &HostRuntime, case: &Case) -> Result<(Exit, MemSink), Fail> {
         case.read_fails.to_vec(alloc)?,
     );
     let mut sink = MemSink::new(alloc, case.room, case.write_fails.to_vec(alloc)?)?;
-    let exit = rac(alloc, words.as_slice(), &mut source, &mut sink);
+    let mut disk = MemDisk::new(alloc, 200, case.log_bytes, case.disk_fails.to_vec(alloc)?)?;
+    let exit = rac(alloc, words.as_slice(), &mut source, &mut sink, &mut disk);
     Ok((exit, sink))
 }
 
@@ -171,6 +191,41 @@ fn ends_as_it_should(rt: HostRuntime) -> Result<(), Fail> {
             status: 5,
             ..RUN
         },
+        Case {
+            script: SECOND,
+            disk_fails: &[PART_OF_AN_APPEND],
+            status: 6,
+            written: "3: changed\n4: ORA-03113\n",
+            ..RUN
+        },
+        Case {
+            script: SECOND,
+            log_bytes: 8,
+            status: 6,
+            written: "3: changed\n4: ORA-03113\n",
+            ..RUN
+        },
+        Case {
+            script: SECOND,
+            disk_fails: &[FIRST_CUT],
+            status: 6,
+            ..RUN
+        },
+        Case {
+            script: SECOND,
+            room: 4,
+            disk_fails: &[PART_OF_AN_APPEND],
+            status: 5,
+            written: "3: c",
+            ..RUN
+        },
+        Case {
+            script: SECOND,
+            room: 4,
+            disk_fails: &[FIRST_CUT],
+            status: 6,
+            ..RUN
+        },
     ];
     for (number, case) in cases.iter().enumerate() {
         let (exit, sink) = call(&rt, case)?;
@@ -178,5 +233,19 @@ fn ends_as_it_should(rt: HostRuntime) -> Result<(), Fail> {
         assert_eq!(rt; exit.note, case.note, "case {number}");
         assert_eq!(rt; sink.bytes(), case.written.as_bytes(), "case {number}");
     }
+    Ok(())
+}
+
+#[test]
+fn nothing_runs_where_a_log_stays(rt: HostRuntime) -> Result<(), Fail> {
+    let (exit, _) = call(
+        &rt,
+        &Case {
+            script: SECOND,
+            disk_fails: &[FIRST_CUT],
+            ..RUN
+        },
+    )?;
+    assert_eq!(rt; (exit.status, exit.journal.len()), (6, 0));
     Ok(())
 }

@@ -1,4 +1,4 @@
-ghost use Rattle.std.specs.Prelude.{◌≡◌, ℕ, [], ◌⊎◌, map, string_bytes, length, None, Some, Ok, Err, IfSome, true, ◌↔◌};
+ghost use Rattle.std.specs.Prelude.{◌≡◌, ℕ, [], ◌⊎◌, map, string_bytes, length, None, Some, Ok, Err, IfSome, IsSome, IsSomeAnd, true, ◌≢◌, ◌↔◌};
 ghost use Rattle.std.specs.Io.KnownBytes.{Appends, Keeps};
 ghost use Rattle.rac_io.specs.Counts.{Counts, Rose};
 ghost use Rattle.row_model.specs.Good.{GoodRows, GoodFound, GoodCommits, GoodAcknowledgements, GoodStarts, GoodRowLocks, GoodReplay};
@@ -9,12 +9,16 @@ ghost use Rattle.script_text.specs.GoodLines.{GoodLines, AllAnswered};
 ghost use Rattle.rac_top.specs.Words.{journal_asked};
 ghost use Rattle.rac_top.specs.Runs.{Says};
 ghost use Rattle.rac_io.specs.Write.{AppendsPart};
-ghost use Rattle.rac_top.specs.Exits.{is_without_run, NoteFits, SaysNo, Reports, ReportsPart, exit_unread};
+ghost use Rattle.plain_node.specs.Engine.{IsCalm, IsOneFault, LogsTell};
+ghost use Rattle.rac_top.specs.Creation.{MayBeCut};
+ghost use Rattle.rac_top.specs.Exits.{is_without_run, is_before_disk, NoteFits, SaysNo, IsReported, HasRun, Reports, ReportsPart, exit_of, exit_unread};
 
+use crate::creation::cut_logs;
 use crate::exit::{Exit, Note};
 use crate::reading::{Unread, read};
 use crate::running::{Run, run_and_report};
 use crate::words::read_words;
+use rac_disk::SharedDisk;
 use rac_io::{Sink, Source, WriteFault, write_whole};
 use rac_nums::NoMemory;
 use row_model::Journal;
@@ -44,13 +48,14 @@ fn unread(alloc: Global, why: Unread) -> Exit
 
 /// Writes the report, and gives the exit.
 fn write_report<K: Sink>(run: Run, sink: &mut K) -> Exit
-    ensures exit { (result ≡ record { status = 0; note = Note.Nothing; journal = run.journal }) ⊎ (result ≡ record { status = 5; note = Note.Nothing; journal = run.journal }) }
-    ensures whole { result.status ≡ 0 → Appends (K.holds sink.old) (K.holds sink.new) run.report.items }
+    ensures exit { (result ≡ exit_of run.ran) ⊎ (result ≡ record { status = 5; note = Note.Nothing; journal = run.ran.journal }) }
+    ensures whole { result.status ≢ 5 → Appends (K.holds sink.old) (K.holds sink.new) run.report.items }
     ensures part { result.status ≡ 5 → AppendsPart (K.holds sink.old) (K.holds sink.new) run.report.items }
     ensures cause { result.status ≡ 5 → Rose (K.faults sink.old) (K.faults sink.new) ⊎ Rose (K.stalls sink.old) (K.stalls sink.new) }
 {
-    let Run { journal, report } = run;
+    let Run { ran, report } = run;
     let status = match write_whole(sink, report.as_slice()) {
+        Ok(()) if ran.faulted => 6,
         Ok(()) => 0,
         Err(WriteFault::Failed) => 5,
         Err(WriteFault::Stalled) => 5,
@@ -58,21 +63,23 @@ fn write_report<K: Sink>(run: Run, sink: &mut K) -> Exit
     Exit {
         status,
         note: Note::Nothing,
-        journal,
+        journal: ran.journal,
     }
 }
 
-/// Does all that the program does: reads its words and the script, runs it, and writes the report.
+/// Does all that the program does: reads its words and the script, empties the logs of the disk, runs the script
+/// over it, and writes the report, also where a fault of the disk ended the run.
 ///
-/// The words are those after the program's name. Where a source or a sink doesn't tell its bytes, the clauses
-/// that speak of these claim nothing.
-pub fn rac<S: Source, K: Sink>(
+/// The words are those after the program's name. Where a source, a sink or a disk doesn't tell what it holds, the
+/// clauses that speak of that claim nothing.
+pub fn rac<S: Source, K: Sink, D: SharedDisk>(
     alloc: Global,
     words: &[String],
     source: &mut S,
     sink: &mut K,
+    disk: &mut D,
 ) -> Exit
-    // The statuses are 0, 2, 3, 4, 5 and 7, each with its note.
+    // The statuses are 0 and 2 to 7, each with its note.
     ensures note { NoteFits result.note result.status }
 
     // When each comes.
@@ -83,13 +90,25 @@ pub fn rac<S: Source, K: Sink>(
     ensures read_fault { Counts (result.status ≡ 4) (S.faults source.old) (S.faults source.new) }
     ensures write_fault { result.status ≡ 5 →
         Rose (K.faults sink.old) (K.faults sink.new) ⊎ Rose (K.stalls sink.old) (K.stalls sink.new) }
+    ensures disk_fault { result.status ≡ 6 →
+        Rose (D.faults disk.old) (D.faults disk.new) ⊎ Rose (D.full disk.old) (D.full disk.new) }
+    ensures disk_calm { result.status ≡ 0 →
+        IsCalm (D.faults disk.old) (D.faults disk.new) (D.full disk.old) (D.full disk.new) }
 
     // What is written.
-    ensures report { result.status ≡ 0 → IfSome (S.left source.old) (λ text.
+    ensures report { IsReported result → IfSome (S.left source.old) (λ text.
         Reports (journal_asked (map string_bytes words.now)) text result.journal (K.holds sink.old) (K.holds sink.new)) }
     ensures part { result.status ≡ 5 → IfSome (S.left source.old) (λ text.
         ReportsPart (journal_asked (map string_bytes words.now)) text result.journal (K.holds sink.old) (K.holds sink.new)) }
     ensures silent { is_without_run result.status ≡ true → (result.journal ≡ []) × (sink.new ≡ sink.old) }
+    ensures uncreated { result.status ≡ 6 → result.journal ≡ [] →
+        (sink.new ≡ sink.old) × MayBeCut (D.state disk.old) (D.state disk.new) }
+
+    // What the disk has.
+    ensures untouched { is_before_disk result.status ≡ true → disk.new ≡ disk.old }
+    ensures redo { HasRun result → IsSome (D.state disk.old) →
+        IsOneFault (D.faults disk.old) (D.faults disk.new) (D.full disk.old) (D.full disk.new) →
+        IsSomeAnd (D.state disk.new) (λ it. LogsTell it result.journal) }
 
     // The journal is good.
     ensures rows { IfSome (S.left source.old) (λ text. (parts : ScriptParts) → reading text ≡ Ok parts →
@@ -112,7 +131,10 @@ pub fn rac<S: Source, K: Sink>(
         Ok(script) => script,
         Err(why) => return unread(alloc, why),
     };
-    match run_and_report(alloc, &script, with_journal) {
+    let Ok(()) = cut_logs(disk) else {
+        return without_run(alloc, 6, Note::Nothing);
+    };
+    match run_and_report(alloc, &script, with_journal, disk) {
         Ok(run) => write_report(run, sink),
         Err(NoMemory) => without_run(alloc, 7, Note::Nothing),
     }
