@@ -1,11 +1,13 @@
 -- What the exits of the top call say.
-use Rattle.std.specs.Prelude.{◌≡◌, ◌≢◌, ◌⊎◌, ℕ, List, [], Bool, true, ◌==◌, ◌||◌, if◌then◌else◌, Option, Some, Ok, Err}
+use Rattle.std.specs.Prelude.{◌≡◌, ◌≢◌, ◌⊎◌, ◌≤◌, ◌+◌, ◌-◌, ◌^◌, ℕ, List, [], length, reverse, false, Bool, true, ◌==◌, ◌||◌, if◌then◌else◌, Option, Some, Ok, Err}
 use Rattle.std.specs.Io.KnownBytes.{Appends}
+use Rattle.std.specs.List.{list_any}
 use Rattle.rac_io.specs.Write.{AppendsPart}
 use Rattle.row_model.specs.declared.entry.Entry.{Entry}
 use Rattle.script_text.specs.ScriptParts.{ScriptParts}
 use Rattle.script_text.specs.Reading.{reading}
 use Rattle.run_report.specs.Reports.{report_text}
+use Rattle.plain_node.specs.Ends.{ends_in}
 use Rattle.plain_node.specs.declared.run.Ran.{Ran}
 use Rattle.rac_top.specs.declared.exit.Exit.{Exit}
 use Rattle.rac_top.specs.declared.exit.Note.{Note}
@@ -42,6 +44,13 @@ HasRun exit = IsReported exit ⊎ (exit.status ≡ 5)
 -- the exit of a run whose report was written whole
 abbrev pub exit_of : Ran → Exit
 exit_of ran = record { status = if ran.faulted then 6 else 0; note = Nothing; journal = ran.journal }
+
+-- Instances ended by faults of the disk alone: its two counts rose by at least as much as there are ends in the
+-- journal, or one of them stands at its last value.
+pub record EndsByFaults (journal : List Entry) (faults faults_now full full_now : ℕ) : Type 0 where
+  pub none_bad : list_any (λ end. end.1) (ends_in (reverse journal)) ≡ false
+  pub counted : (length (ends_in (reverse journal)) ≤ (faults_now - faults) + (full_now - full))
+      ⊎ (2 ^ 64 - 1 ≤ faults_now) ⊎ (2 ^ 64 - 1 ≤ full_now)
 
 -- a note stands beside its own status
 abbrev pub NoteFits : Note → ℕ → Type 0

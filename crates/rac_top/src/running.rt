@@ -3,6 +3,7 @@ ghost use Rattle.script_text.specs.WellFormed.{IsWellFormed};
 ghost use Rattle.run_report.specs.Reports.{report_text};
 ghost use Rattle.plain_node.specs.Engine.{IsOneFault};
 ghost use Rattle.plain_node.specs.Ran.{IsRan, Tells};
+ghost use Rattle.rac_top.specs.Exits.{EndsByFaults};
 
 use plain_node::{Ran, run_script};
 use rac_disk::SharedDisk;
@@ -28,6 +29,7 @@ pub fn run_and_report<D: SharedDisk>(
     requires { IsWellFormed script.now }
     ensures ran { IfOk result (λ run. IsRan script.now (D.faults disk.old) (D.faults disk.new) (D.full disk.old) (D.full disk.new) run.ran) }
     ensures ended { IfOk result (λ run. run.ran.faulted ≡ true → run.ran.journal ≢ []) }
+    ensures ends { IfOk result (λ run. EndsByFaults run.ran.journal (D.faults disk.old) (D.faults disk.new) (D.full disk.old) (D.full disk.new)) }
     ensures tells { IfOk result (λ run. Tells (D.state disk.old) (D.state disk.new)
         (IsOneFault (D.faults disk.old) (D.faults disk.new) (D.full disk.old) (D.full disk.new)) run.ran.journal) }
     ensures report { IfOk result (λ run. run.report.items ≡ report_text script.now run.ran.journal with_journal) }

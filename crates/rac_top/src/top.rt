@@ -11,7 +11,7 @@ ghost use Rattle.rac_top.specs.Runs.{Says};
 ghost use Rattle.rac_io.specs.Write.{AppendsPart};
 ghost use Rattle.plain_node.specs.Engine.{IsCalm, IsOneFault, LogsTell};
 ghost use Rattle.rac_top.specs.Creation.{MayBeCut};
-ghost use Rattle.rac_top.specs.Exits.{is_without_run, is_before_disk, NoteFits, SaysNo, IsReported, HasRun, Reports, ReportsPart, exit_of, exit_unread};
+ghost use Rattle.rac_top.specs.Exits.{EndsByFaults, is_without_run, is_before_disk, NoteFits, SaysNo, IsReported, HasRun, Reports, ReportsPart, exit_of, exit_unread};
 
 use crate::creation::cut_logs;
 use crate::exit::{Exit, Note};
@@ -92,6 +92,7 @@ pub fn rac<S: Source, K: Sink, D: SharedDisk>(
         Rose (K.faults sink.old) (K.faults sink.new) ⊎ Rose (K.stalls sink.old) (K.stalls sink.new) }
     ensures disk_fault { result.status ≡ 6 →
         Rose (D.faults disk.old) (D.faults disk.new) ⊎ Rose (D.full disk.old) (D.full disk.new) }
+    ensures ends { EndsByFaults result.journal (D.faults disk.old) (D.faults disk.new) (D.full disk.old) (D.full disk.new) }
     ensures disk_calm { result.status ≡ 0 →
         IsCalm (D.faults disk.old) (D.faults disk.new) (D.full disk.old) (D.full disk.new) }
 
