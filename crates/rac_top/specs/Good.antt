@@ -1,5 +1,5 @@
 -- A good journal of a run of a script.
-use Rattle.std.specs.Prelude.{◌≡◌, ℕ, ◌⊎◌, List}
+use Rattle.std.specs.Prelude.{◌≡◌, ℕ, List}
 use Rattle.row_model.specs.declared.entry.Entry.{Entry}
 use Rattle.row_model.specs.Good.{GoodRows, GoodFound, GoodCommits, GoodAcknowledgements}
 use Rattle.row_model.specs.Good.{GoodStarts, GoodRowLocks, GoodReplay}
@@ -20,11 +20,11 @@ pub record GoodStatements (parts : ScriptParts) (journal : List Entry) : Type 0 
   pub replay : GoodReplay journal
   pub lines : GoodLines parts journal
 
--- All that is promised of the journal of a run that ended with a status. At the statuses 0 and 6 the run went to
--- its end, and every line is answered.
+-- All that is promised of the journal of a run that ended with a status. At 0 the run went to its end, and every line
+-- is answered; a fault of the disk (6) ends it before.
 pub record Good (parts : ScriptParts) (status : ℕ) (journal : List Entry) : Type 0 where
   pub statements : GoodStatements parts journal
-  pub answered : (status ≡ 0) ⊎ (status ≡ 6) → AllAnswered parts journal
+  pub answered : status ≡ 0 → AllAnswered parts journal
   pub refusals : GoodRefusals parts journal
   pub control_lines : GoodControlLines parts journal
-  pub controlled : (status ≡ 0) ⊎ (status ≡ 6) → AllControlled parts journal
+  pub controlled : status ≡ 0 → AllControlled parts journal

@@ -1,7 +1,11 @@
 use crate::{Exit, Note, rac};
-use rac_disk::{CallKind, MemDisk, Planned};
+use log_table::{HistoryLine, history_of};
+use rac_disk::{CallKind, MemDisk, Planned, SharedDisk};
 use rac_io::{MemSink, MemSource};
+use rac_nums::{InstNo, RowNo, Scn, Value, Xid};
+use row_model::{Entry, Journal, check};
 use script_text::Rule;
+use std::alloc::{AllocError, Global};
 use std::test::Fail;
 
 /// A call: its words, its script, the reads that fail, the room of its sink and the writes that fail, the room of
@@ -49,7 +53,7 @@ const FIRST_CUT: Planned = Planned {
     keep: 0,
 };
 
-fn call(rt: &HostRuntime, case: &Case) -> Result<(Exit, MemSink), Fail> {
+fn call(rt: &HostRuntime, case: &Case) -> Result<(Exit, MemSink, MemDisk), Fail> {
     let alloc = rt.alloc();
     let mut words = Vec::new(alloc);
     for word in case.words {
@@ -62,173 +66,174 @@ fn call(rt: &HostRuntime, case: &Case) -> Result<(Exit, MemSink), Fail> {
     let mut sink = MemSink::new(alloc, case.room, case.write_fails.to_vec(alloc)?)?;
     let mut disk = MemDisk::new(alloc, 200, case.log_bytes, case.disk_fails.to_vec(alloc)?)?;
     let exit = rac(alloc, words.as_slice(), &mut source, &mut sink, &mut disk);
-    Ok((exit, sink))
+    Ok((exit, sink, disk))
 }
+
+const CASES: [Case<'static>; 25] = [
+    RUN,
+    Case {
+        script: "go\ngo\n",
+        ..RUN
+    },
+    Case {
+        script: FIRST,
+        written: "3: changed\n4: committed\n5: rows 3=42\n",
+        ..RUN
+    },
+    Case {
+        script: "# note\ninstances 1\n\nsession a on 0\na: put 0 1\ngo\n# again\na: commit\ngo\na: get 0\n",
+        written: "5: changed\n8: committed\n10: rows 0=1\n",
+        ..RUN
+    },
+    Case {
+        script: "instances 1\nsession a on 0\na: get 31\na: get 0\n",
+        written: "3: rows none\n4: rows none\n",
+        ..RUN
+    },
+    Case {
+        words: &["run", "--journal"],
+        script: "session a on 0\na: commit\na: put 0 -7\na: get 0",
+        written: "2: committed\n3: changed\n4: rows 0=-7\nopened a 0\nstarted 2 a 0\nplain 2\nstarted 3 a 0\nchanged 3 0.0.1 0 absent -7\nstarted 4 a 0\nrows 4 0=-7\n",
+        ..RUN
+    },
+    Case {
+        script: "session a on 0\na: put 0 1\na: commit\na: put 0 2\na: commit\na: put 1 1\na: get 0\na: get 1\n",
+        written: "2: changed\n3: committed\n4: changed\n5: committed\n6: changed\n7: rows 0=2\n8: rows 1=1\n",
+        ..RUN
+    },
+    Case {
+        script: "instances 1\nsession a on 0\na: get 32\n",
+        status: 3,
+        note: Note::Line {
+            n: 3,
+            rule: Rule::Range,
+        },
+        ..RUN
+    },
+    Case {
+        script: "session a on 0\na: pu\n",
+        status: 3,
+        note: Note::Line {
+            n: 2,
+            rule: Rule::Word,
+        },
+        ..RUN
+    },
+    Case {
+        script: "session a on 0\nz: get 0\n",
+        status: 3,
+        note: Note::Line {
+            n: 2,
+            rule: Rule::Session,
+        },
+        ..RUN
+    },
+    Case {
+        script: "instances 1\nsession a on 0\na: put 0 9223372036854775808\n",
+        status: 3,
+        note: Note::Line {
+            n: 3,
+            rule: Rule::Number,
+        },
+        ..RUN
+    },
+    Case {
+        words: &[],
+        status: 2,
+        note: Note::Usage,
+        ..RUN
+    },
+    Case {
+        words: &["run", "--jornal"],
+        script: FIRST,
+        status: 2,
+        note: Note::Usage,
+        ..RUN
+    },
+    Case {
+        words: &["run", "--journal", "--journal"],
+        status: 2,
+        note: Note::Usage,
+        ..RUN
+    },
+    Case {
+        words: &["walk"],
+        status: 2,
+        note: Note::Usage,
+        ..RUN
+    },
+    Case {
+        script: FIRST,
+        read_fails: &[1],
+        status: 4,
+        ..RUN
+    },
+    Case {
+        script: FIRST,
+        read_fails: &[2],
+        status: 4,
+        ..RUN
+    },
+    Case {
+        script: FIRST,
+        read_fails: &[3],
+        written: "3: changed\n4: committed\n5: rows 3=42\n",
+        ..RUN
+    },
+    Case {
+        script: FIRST,
+        room: 4,
+        status: 5,
+        written: "3: c",
+        ..RUN
+    },
+    Case {
+        script: FIRST,
+        write_fails: &[1],
+        status: 5,
+        ..RUN
+    },
+    Case {
+        script: SECOND,
+        disk_fails: &[PART_OF_AN_APPEND],
+        status: 6,
+        written: "3: changed\n4: ORA-03113\n",
+        ..RUN
+    },
+    Case {
+        script: SECOND,
+        log_bytes: 8,
+        status: 6,
+        written: "3: changed\n4: ORA-03113\n",
+        ..RUN
+    },
+    Case {
+        script: SECOND,
+        disk_fails: &[FIRST_CUT],
+        status: 6,
+        ..RUN
+    },
+    Case {
+        script: SECOND,
+        room: 4,
+        disk_fails: &[PART_OF_AN_APPEND],
+        status: 5,
+        written: "3: c",
+        ..RUN
+    },
+    Case {
+        script: SECOND,
+        room: 4,
+        disk_fails: &[FIRST_CUT],
+        status: 6,
+        ..RUN
+    },
+];
 
 #[test]
 fn ends_as_it_should(rt: HostRuntime) -> Result<(), Fail> {
-    let cases = [
-        RUN,
-        Case {
-            script: "go\ngo\n",
-            ..RUN
-        },
-        Case {
-            script: FIRST,
-            written: "3: changed\n4: committed\n5: rows 3=42\n",
-            ..RUN
-        },
-        Case {
-            script: "# note\ninstances 1\n\nsession a on 0\na: put 0 1\ngo\n# again\na: commit\ngo\na: get 0\n",
-            written: "5: changed\n8: committed\n10: rows 0=1\n",
-            ..RUN
-        },
-        Case {
-            script: "instances 1\nsession a on 0\na: get 31\na: get 0\n",
-            written: "3: rows none\n4: rows none\n",
-            ..RUN
-        },
-        Case {
-            words: &["run", "--journal"],
-            script: "session a on 0\na: commit\na: put 0 -7\na: get 0",
-            written: "2: committed\n3: changed\n4: rows 0=-7\nopened a 0\nstarted 2 a 0\nplain 2\nstarted 3 a 0\nchanged 3 0.0.1 0 absent -7\nstarted 4 a 0\nrows 4 0=-7\n",
-            ..RUN
-        },
-        Case {
-            script: "session a on 0\na: put 0 1\na: commit\na: put 0 2\na: commit\na: put 1 1\na: get 0\na: get 1\n",
-            written: "2: changed\n3: committed\n4: changed\n5: committed\n6: changed\n7: rows 0=2\n8: rows 1=1\n",
-            ..RUN
-        },
-        Case {
-            script: "instances 1\nsession a on 0\na: get 32\n",
-            status: 3,
-            note: Note::Line {
-                n: 3,
-                rule: Rule::Range,
-            },
-            ..RUN
-        },
-        Case {
-            script: "session a on 0\na: pu\n",
-            status: 3,
-            note: Note::Line {
-                n: 2,
-                rule: Rule::Word,
-            },
-            ..RUN
-        },
-        Case {
-            script: "session a on 0\nz: get 0\n",
-            status: 3,
-            note: Note::Line {
-                n: 2,
-                rule: Rule::Session,
-            },
-            ..RUN
-        },
-        Case {
-            script: "instances 1\nsession a on 0\na: put 0 9223372036854775808\n",
-            status: 3,
-            note: Note::Line {
-                n: 3,
-                rule: Rule::Number,
-            },
-            ..RUN
-        },
-        Case {
-            words: &[],
-            status: 2,
-            note: Note::Usage,
-            ..RUN
-        },
-        Case {
-            words: &["run", "--jornal"],
-            script: FIRST,
-            status: 2,
-            note: Note::Usage,
-            ..RUN
-        },
-        Case {
-            words: &["run", "--journal", "--journal"],
-            status: 2,
-            note: Note::Usage,
-            ..RUN
-        },
-        Case {
-            words: &["walk"],
-            status: 2,
-            note: Note::Usage,
-            ..RUN
-        },
-        Case {
-            script: FIRST,
-            read_fails: &[1],
-            status: 4,
-            ..RUN
-        },
-        Case {
-            script: FIRST,
-            read_fails: &[2],
-            status: 4,
-            ..RUN
-        },
-        Case {
-            script: FIRST,
-            read_fails: &[3],
-            written: "3: changed\n4: committed\n5: rows 3=42\n",
-            ..RUN
-        },
-        Case {
-            script: FIRST,
-            room: 4,
-            status: 5,
-            written: "3: c",
-            ..RUN
-        },
-        Case {
-            script: FIRST,
-            write_fails: &[1],
-            status: 5,
-            ..RUN
-        },
-        Case {
-            script: SECOND,
-            disk_fails: &[PART_OF_AN_APPEND],
-            status: 6,
-            written: "3: changed\n4: ORA-03113\n",
-            ..RUN
-        },
-        Case {
-            script: SECOND,
-            log_bytes: 8,
-            status: 6,
-            written: "3: changed\n4: ORA-03113\n",
-            ..RUN
-        },
-        Case {
-            script: SECOND,
-            disk_fails: &[FIRST_CUT],
-            status: 6,
-            ..RUN
-        },
-        Case {
-            script: SECOND,
-            room: 4,
-            disk_fails: &[PART_OF_AN_APPEND],
-            status: 5,
-            written: "3: c",
-            ..RUN
-        },
-        Case {
-            script: SECOND,
-            room: 4,
-            disk_fails: &[FIRST_CUT],
-            status: 6,
-            ..RUN
-        },
-    ];
-    for (number, case) in cases.iter().enumerate() {
-        let (exit, sink) = call(&rt, case)?;
+    for (number, case) in CASES.iter().enumerate() {
+        let (exit, sink, _) = call(&rt, case)?;
         assert_eq!(rt; exit.status, case.status, "case {number}");
         assert_eq!(rt; exit.note, case.note, "case {number}");
         assert_eq!(rt; sink.bytes(), case.written.as_bytes(), "case {number}");
@@ -238,7 +243,7 @@ fn ends_as_it_should(rt: HostRuntime) -> Result<(), Fail> {
 
 #[test]
 fn nothing_runs_where_a_log_stays(rt: HostRuntime) -> Result<(), Fail> {
-    let (exit, _) = call(
+    let (exit, _, _) = call(
         &rt,
         &Case {
             script: SECOND,
@@ -247,5 +252,80 @@ fn nothing_runs_where_a_log_stays(rt: HostRuntime) -> Result<(), Fail> {
         },
     )?;
     assert_eq!(rt; (exit.status, exit.journal.len()), (6, 0));
+    Ok(())
+}
+
+/// What the log of the first thread has: its commits, and where its torn end begins.
+fn read_history(
+    rt: &HostRuntime,
+    disk: &mut MemDisk,
+) -> Result<(Vec<HistoryLine>, Vec<(InstNo, u64)>), Fail> {
+    let alloc = rt.alloc();
+    let mut room = [0; 400];
+    let count = disk.read_log(InstNo(0), 0, &mut room)?;
+    let mut logs = Vec::new(alloc);
+    logs.push(
+        room.as_slice()
+            .get(..count)
+            .unwrap_or_default()
+            .to_vec(alloc)?,
+    )?;
+    Ok(history_of(alloc, logs.as_slice())?)
+}
+
+/// The transactions that a journal commits, with their SCNs.
+fn commits_in(alloc: Global, journal: &Journal) -> Result<Vec<(Xid, Scn)>, AllocError> {
+    let mut commits = Vec::new(alloc);
+    for entry in journal.as_slice() {
+        if let Entry::Committed { xid, c, .. } = entry {
+            commits.push((*xid, *c))?;
+        }
+    }
+    Ok(commits)
+}
+
+/// The append of a change (236 bytes) and its commit (88) fails, having kept each number of bytes.
+#[test]
+fn the_log_tells_the_history_wherever_it_was_cut(rt: HostRuntime) -> Result<(), Fail> {
+    let alloc = rt.alloc();
+    for keep in 0..=330 {
+        let plan = [Planned {
+            keep,
+            ..PART_OF_AN_APPEND
+        }];
+        let (exit, sink, mut disk) = call(
+            &rt,
+            &Case {
+                script: SECOND,
+                disk_fails: &plan,
+                ..RUN
+            },
+        )?;
+        assert_eq!(rt; exit.status, 6, "keep {keep}");
+        assert_eq!(rt;
+            sink.bytes(),
+            "3: changed\n4: ORA-03113\n".as_bytes(),
+            "keep {keep}"
+        );
+        assert!(rt; check(alloc, 32, &exit.journal)?, "keep {keep}");
+        let commits = commits_in(alloc, &exit.journal)?;
+        assert_eq!(rt; commits.len(), usize::from(keep >= 324), "keep {keep}");
+        let (lines, torn) = read_history(&rt, &mut disk)?;
+        assert_eq!(rt; lines.len(), commits.len(), "keep {keep}");
+        for (line, commit) in lines.iter().zip(&commits) {
+            assert_eq!(rt; (line.xid, line.c), *commit, "keep {keep}");
+            assert_eq!(rt;
+                line.changes.as_slice(),
+                [(RowNo(0), Value::Num(1))].as_slice(),
+                "keep {keep}"
+            );
+        }
+        let end = match keep {
+            1..=235 => Some(0),
+            237..=323 => Some(236),
+            _ => None,
+        };
+        assert_eq!(rt; torn.first().map(|place| place.1), end, "keep {keep}");
+    }
     Ok(())
 }
