@@ -1,0 +1,115 @@
+use super::*;
+use rac_disk::{Failed, SharedDisk};
+use rac_nums::{BlockNo, InstNo};
+use std::fs;
+use std::test::Fail;
+
+const BLOCK: BlockNo = BlockNo(199);
+
+const THREAD: InstNo = InstNo(7);
+
+// The first byte of a block and its last.
+fn ends_of_block<D: SharedDisk>(disk: &mut D, b: BlockNo) -> Result<(u8, u8), Failed>
+    requires { b.0 < 200 }
+{
+    let mut out = [9; 512];
+    disk.read_block(b, &mut out)?;
+    Ok((out[0], out[511]))
+}
+
+// The first byte of a control entry and its last.
+fn ends_of_entry<D: SharedDisk>(disk: &mut D, t: InstNo) -> Result<(u8, u8), Failed>
+    requires { t.0 < 8 }
+{
+    let mut out = [9; 32];
+    disk.read_control(t, &mut out)?;
+    Ok((out[0], out[31]))
+}
+
+// Whether each call on a block and a thread fails.
+fn failures<D: SharedDisk>(disk: &mut D) -> [bool; 8] {
+    [
+        disk.read_block(BLOCK, &mut [0; 512]).is_err(),
+        disk.write_block(BLOCK, &[1; 512]).is_err(),
+        disk.append(THREAD, b"ab").is_err(),
+        disk.cut_log(THREAD, 1).is_err(),
+        disk.log_len(THREAD).is_err(),
+        disk.read_log(THREAD, 0, &mut [0; 4]).is_err(),
+        disk.read_control(THREAD, &mut [0; 32]).is_err(),
+        disk.write_control(THREAD, &[1; 32]).is_err(),
+    ]
+}
+
+#[test]
+fn a_folder_keeps_what_was_written(rt: HostRuntime) -> Result<(), Fail> {
+    const FOLDER: &str = "file_disk_test_kept";
+    let _ = fs::remove_dir_all(&rt, FOLDER);
+    fs::create_dir(&rt, FOLDER)?;
+    let mut disk = FileDisk::at(&rt, FOLDER, 200)?;
+    disk.write_block(BLOCK, &[1; 512])?;
+    disk.write_block(BLOCK, &[2; 512])?;
+    disk.write_block(BlockNo(197), &[3; 512])?;
+    disk.write_control(THREAD, &[4; 32])?;
+    disk.append(THREAD, b"abcdef")?;
+    disk.cut_log(THREAD, 9)?;
+    disk.cut_log(THREAD, 4)?;
+    disk.append(THREAD, b"")?;
+    disk.append(THREAD, b"gh")?;
+    drop(disk);
+    // It has more blocks than are asked for, and keeps them.
+    let mut disk = FileDisk::at(&rt, FOLDER, 1)?;
+    for (block, want) in [(199, 2), (198, 0), (197, 3), (0, 0)] {
+        assert_eq!(rt;
+            ends_of_block(&mut disk, BlockNo(block))?,
+            (want, want),
+            "block {block}"
+        );
+    }
+    for (thread, want) in [(7, 4), (6, 0), (0, 0)] {
+        assert_eq!(rt;
+            ends_of_entry(&mut disk, InstNo(thread))?,
+            (want, want),
+            "thread {thread}"
+        );
+    }
+    // The place from which a log is read, and what is read.
+    let cases: [(u64, &[u8]); 5] = [
+        (0, b"abcd"),
+        (2, b"cdgh"),
+        (5, b"h"),
+        (6, b""),
+        (u64::MAX, b""),
+    ];
+    for (at, want) in cases {
+        let mut out = [b'-'; 4];
+        let count = disk.read_log(THREAD, at, &mut out)?;
+        assert_eq!(rt; &out[..count], want, "at {at}");
+    }
+    assert_eq!(rt; (disk.log_len(THREAD)?, disk.log_len(InstNo(6))?), (6, 0));
+    assert_eq!(rt; (disk.faults(), disk.full()), (0, 0));
+    fs::remove_dir_all(&rt, FOLDER)?;
+    Ok(())
+}
+
+#[test]
+fn files_that_cannot_be_used_fail(rt: HostRuntime) -> Result<(), Fail> {
+    const FOLDER: &str = "file_disk_test_failing";
+    let _ = fs::remove_dir_all(&rt, FOLDER);
+    let mut disk = FileDisk::at(&rt, FOLDER, 200)?;
+    assert_eq!(rt; failures(&mut disk), [true; 8]);
+    assert_eq!(rt; (disk.faults(), disk.full()), (8, 0));
+    // A folder in the place of a log, and fewer blocks than 200.
+    fs::create_dir(&rt, FOLDER)?;
+    fs::create_dir(&rt, "file_disk_test_failing/log7")?;
+    let mut disk = FileDisk::at(&rt, FOLDER, 2)?;
+    assert_eq!(rt;
+        failures(&mut disk),
+        [true, false, true, true, true, true, false, false]
+    );
+    assert_eq!(rt; (disk.faults(), disk.full()), (5, 0));
+    // The block that was written past the end is there now.
+    assert_eq!(rt; ends_of_block(&mut disk, BLOCK)?, (1, 1));
+    assert_eq!(rt; ends_of_block(&mut disk, BlockNo(198))?, (0, 0));
+    fs::remove_dir_all(&rt, FOLDER)?;
+    Ok(())
+}
