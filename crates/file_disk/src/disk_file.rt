@@ -1,10 +1,11 @@
-ghost use Rattle.std.specs.Prelude.{◌<◌, ◌≤◌, length, take, IfOk, OnOk, OnErr, IsErr, IsNone};
+ghost use Rattle.std.specs.Prelude.{◌≡◌, ◌<◌, ◌≤◌, false, length, take, IfOk, OnOk, OnErr, IsErr};
 ghost use Rattle.std.specs.Io.KnownBytes.{Appends, Consumes, IsAtEnd};
 ghost use Rattle.rac_io.specs.Write.{AppendsPart};
 
 use std::fs::{File, OpenFile, OpenOptions};
 use std::io;
 use std::io::{ErrorKind, Read, Seek, SeekFrom, Write};
+use std::marker::Model;
 use std::path::Path;
 use std::rt::Files;
 
@@ -12,6 +13,14 @@ use std::rt::Files;
 #[derive(Drop)]
 pub struct DiskFile<F> {
     file: Option<F>,
+}
+
+impl<F> Model for DiskFile<F> {
+    ghost use Rattle.std.specs.Prelude.{Bool, is_some};
+
+    ghost Value = { Bool };
+
+    ghost view = { λ it. is_some it.file };
 }
 
 impl<F> DiskFile<F> {
@@ -27,33 +36,28 @@ impl<F> DiskFile<F> {
             file: open(rt, folder, file, len).ok(),
         }
     }
-
-    // The file, if there is one.
-    fn usable(&mut self) -> io::Result<&mut F>
-        ensures { IsNone self.old.file → IsErr result }
-    {
-        match &mut self.file {
-            Some(file) => Ok(file),
-            None => Err(ErrorKind::NotFound.into()),
-        }
-    }
 }
 
 impl<F: Read + Write + Seek + OpenFile> DiskFile<F> {
     /// How many bytes the file has.
-    pub fn len(&mut self) -> io::Result<u64>
-        ensures missing { IsNone self.old.file → IsErr result }
+    pub fn len(&self) -> io::Result<u64>
+        ensures missing { self.now ≡ false → IsErr result }
     {
-        let file = self.usable()?;
+        let Some(file) = &self.file else {
+            return Err(no_file());
+        };
         Ok(file.metadata()?.len())
     }
 
     /// Reads from a place on, until `out` is full or the file ends.
     pub fn read(&mut self, at: u64, out: &mut [u8]) -> io::Result<usize>
         ensures bound { IfOk result (λ count. count ≤ length out.new) }
-        ensures missing { IsNone self.old.file → IsErr result }
+        ensures missing { self.old ≡ false → IsErr result }
+        ensures kept { self.new ≡ self.old }
     {
-        let file = self.usable()?;
+        let Some(file) = &mut self.file else {
+            return Err(no_file());
+        };
         // Some places are too far for a seek.
         if at >= file.metadata()?.len() {
             return Ok(0);
@@ -64,37 +68,47 @@ impl<F: Read + Write + Seek + OpenFile> DiskFile<F> {
 
     /// Reads from a place on, until `out` is full. It fails where the file ends before.
     pub fn read_whole(&mut self, at: u64, out: &mut [u8]) -> io::Result<()>
-        ensures missing { IsNone self.old.file → IsErr result }
+        ensures missing { self.old ≡ false → IsErr result }
+        ensures kept { self.new ≡ self.old }
     {
-        let count = self.read(at, out)?;
-        if count < out.len() {
-            return Err(ErrorKind::UnexpectedEof.into());
-        }
-        Ok(())
+        let Some(file) = &mut self.file else {
+            return Err(no_file());
+        };
+        file.seek(SeekFrom::Start(at))?;
+        fill(file, out)
     }
 
     /// Writes all the bytes from a place on, and syncs them. A failed write may have written any first part
     /// of them.
     pub fn write(&mut self, at: SeekFrom, bytes: &[u8]) -> io::Result<()>
-        ensures missing { IsNone self.old.file → IsErr result }
+        ensures missing { self.old ≡ false → IsErr result }
+        ensures kept { self.new ≡ self.old }
     {
-        let file = self.usable()?;
+        let Some(file) = &mut self.file else {
+            return Err(no_file());
+        };
         file.seek(at)?;
         write_on(file, bytes)?;
         file.sync_data()
     }
 
     /// Cuts the file to its first `len` bytes where it has more, and syncs its length.
-    pub fn cut(&mut self, len: u64) -> io::Result<()>
-        ensures missing { IsNone self.old.file → IsErr result }
+    pub fn cut(&self, len: u64) -> io::Result<()>
+        ensures missing { self.now ≡ false → IsErr result }
     {
-        let file = self.usable()?;
+        let Some(file) = &self.file else {
+            return Err(no_file());
+        };
         if len < file.metadata()?.len() {
             file.set_len(len)?;
             file.sync_data()?;
         }
         Ok(())
     }
+}
+
+fn no_file() -> io::Error {
+    ErrorKind::NotFound.into()
 }
 
 fn open<R: Files>(rt: &R, folder: Path<'_>, file: Path<'_>, len: u64) -> io::Result<R::File> {
@@ -124,6 +138,17 @@ fn read_on<F: Read>(file: &mut F, out: &mut [u8]) -> io::Result<usize>
         count += more;
     }
     Ok(count)
+}
+
+// Reads until `out` is full. It fails where the reader ends before.
+fn fill<F: Read>(file: &mut F, out: &mut [u8]) -> io::Result<()>
+    ensures { OnOk result (Consumes (F.remaining file.old) (F.remaining file.new) out.new) }
+{
+    let count = read_on(file, out)?;
+    if count < out.len() {
+        return Err(ErrorKind::UnexpectedEof.into());
+    }
+    Ok(())
 }
 
 // Writes all the bytes. An error leaves some first part of them written.

@@ -1,4 +1,4 @@
-ghost use Rattle.std.specs.Prelude.{◌≡◌, ◌*◌, length, IfOk, IsErr, Ok, None};
+ghost use Rattle.std.specs.Prelude.{◌≡◌, ◌↔◌, ◌*◌, ◌<◌, ◌≤◌, false, length, IfOk, IsErr, Ok, None};
 ghost use Rattle.rac_io.specs.Counts.{Counts};
 
 use crate::disk_file::DiskFile;
@@ -16,6 +16,15 @@ const LOGS: [&str; 8] = [
 ];
 
 /// A shared disk over the files `blocks`, `control` and `log0` to `log7` of a folder.
+///
+/// Each call on a file that couldn't be opened fails. Each error of a file is a fault, an interruption too,
+/// and no log has an end to its room. A read of a block fails where the file of blocks ends before it, and a
+/// write there makes that file longer.
+///
+/// A write, an append and a cut sync the file's data and its length before they answer `Ok`. Nothing is
+/// proved of what the files hold: they are trusted to give what was written. A failed append leaves some
+/// first bytes in the log, none of them, a part or all, but a failed write of a block or a control entry may
+/// leave a part too. A later call doesn't take any of that back.
 #[derive(Drop)]
 pub struct FileDisk<F> {
     blocks: DiskFile<F>,
@@ -25,23 +34,28 @@ pub struct FileDisk<F> {
 }
 
 impl<F> Model for FileDisk<F> {
-    ghost use Rattle.std.specs.Prelude.{◌≡◌, ℕ, length};
+    ghost use Rattle.std.specs.Prelude.{◌≡◌, length};
+    ghost use Rattle.file_disk.specs.Files.{FilesState};
 
-    ghost Value = { ℕ };
+    ghost Value = { FilesState };
 
-    ghost view = { λ it. it.faults };
+    ghost view = { λ it. record { blocks = it.blocks; control = it.control; logs = it.logs.items; faults = it.faults } };
 
     ghost invariant = { λ it. length it.logs.items ≡ 8 };
 }
 
 impl<F> FileDisk<F> {
-    /// Opens the files.
+    /// Opens the files of a folder, which has to exist, or makes them. What they hold stays. `blocks` is made
+    /// at least `layout_blocks` * 512 bytes long, and `control` 256, with zeros. Each file and the folder's
+    /// list of names are synced; the folder's own name isn't. Where any of this fails for a file, that file
+    /// counts as one that couldn't be opened. `NoMemory` where memory for the names is short.
     pub fn at<R: Files<File = F> + AllocGlobal>(
         rt: &R,
         folder: &str,
         layout_blocks: u16,
     ) -> Result<FileDisk<F>, NoMemory>
-        ensures { IfOk result (λ it. it ≡ 0) }
+        ensures logs { IfOk result (λ it. length it.logs ≡ 8) }
+        ensures faults { IfOk result (λ it. it.faults ≡ 0) }
     {
         let folder = Path::new(folder);
         Ok(FileDisk {
@@ -54,49 +68,93 @@ impl<F> FileDisk<F> {
 }
 
 impl<F: Read + Write + Seek + OpenFile> SharedDisk for FileDisk<F> {
+    ghost use Rattle.rac_disk.specs.Calls.{HasRoom, CountsAppend};
+    ghost use Rattle.file_disk.specs.Files.{has_log};
+
     ghost state = { λ _. None };
 
-    ghost faults = { λ it. it };
+    ghost faults = { λ it. it.faults };
 
     ghost full = { λ _. 0 };
 
-    fn read_block(&mut self, b: BlockNo, out: &mut [u8; 512]) -> Result<(), Failed> {
+    fn read_block(&mut self, b: BlockNo, out: &mut [u8; 512]) -> Result<(), Failed>
+        requires { b.0 < 200 }
+        ensures faults { Counts (IsErr result) self.old.faults self.new.faults }
+        ensures missing { self.old.blocks ≡ false → IsErr result }
+        ensures kept { self.new ≡ record self.old { faults = self.new.faults } }
+    {
         let done = self.blocks.read_whole(block_place(b.0), out);
         counted(&mut self.faults, done)
     }
 
-    fn write_block(&mut self, b: BlockNo, bytes: &[u8; 512]) -> Result<(), Failed> {
+    fn write_block(&mut self, b: BlockNo, bytes: &[u8; 512]) -> Result<(), Failed>
+        requires { b.0 < 200 }
+        ensures faults { Counts (IsErr result) self.old.faults self.new.faults }
+        ensures missing { self.old.blocks ≡ false → IsErr result }
+        ensures kept { self.new ≡ record self.old { faults = self.new.faults } }
+    {
         let place = SeekFrom::Start(block_place(b.0));
         let done = self.blocks.write(place, bytes);
         counted(&mut self.faults, done)
     }
 
-    fn append(&mut self, t: InstNo, bytes: &[u8]) -> Result<(), Failed> {
+    fn append(&mut self, t: InstNo, bytes: &[u8]) -> Result<(), Failed>
+        requires { t.0 < 8 }
+        ensures counts { CountsAppend (IsErr result) (HasRoom None t.0 (length bytes.now)) self.old.faults self.new.faults 0 0 }
+        ensures missing { has_log self.old t.0 ≡ false → IsErr result }
+        ensures kept { self.new ≡ record self.old { faults = self.new.faults } }
+    {
         let done = self.logs[usize::from(t.0)].write(SeekFrom::End(0), bytes);
         counted(&mut self.faults, done)
     }
 
-    fn cut_log(&mut self, t: InstNo, len: u64) -> Result<(), Failed> {
+    fn cut_log(&mut self, t: InstNo, len: u64) -> Result<(), Failed>
+        requires { t.0 < 8 }
+        ensures faults { Counts (IsErr result) self.old.faults self.new.faults }
+        ensures missing { has_log self.old t.0 ≡ false → IsErr result }
+        ensures kept { self.new ≡ record self.old { faults = self.new.faults } }
+    {
         let done = self.logs[usize::from(t.0)].cut(len);
         counted(&mut self.faults, done)
     }
 
-    fn log_len(&mut self, t: InstNo) -> Result<u64, Failed> {
+    fn log_len(&mut self, t: InstNo) -> Result<u64, Failed>
+        requires { t.0 < 8 }
+        ensures faults { Counts (IsErr result) self.old.faults self.new.faults }
+        ensures missing { has_log self.old t.0 ≡ false → IsErr result }
+        ensures kept { self.new ≡ record self.old { faults = self.new.faults } }
+    {
         let done = self.logs[usize::from(t.0)].len();
         counted(&mut self.faults, done)
     }
 
-    fn read_log(&mut self, t: InstNo, at: u64, out: &mut [u8]) -> Result<usize, Failed> {
+    fn read_log(&mut self, t: InstNo, at: u64, out: &mut [u8]) -> Result<usize, Failed>
+        requires { t.0 < 8 }
+        ensures bound { IfOk result (λ count. count ≤ length out.new) }
+        ensures faults { Counts (IsErr result) self.old.faults self.new.faults }
+        ensures missing { has_log self.old t.0 ≡ false → IsErr result }
+        ensures kept { self.new ≡ record self.old { faults = self.new.faults } }
+    {
         let done = self.logs[usize::from(t.0)].read(at, out);
         counted(&mut self.faults, done)
     }
 
-    fn read_control(&mut self, t: InstNo, out: &mut [u8; 32]) -> Result<(), Failed> {
+    fn read_control(&mut self, t: InstNo, out: &mut [u8; 32]) -> Result<(), Failed>
+        requires { t.0 < 8 }
+        ensures faults { Counts (IsErr result) self.old.faults self.new.faults }
+        ensures missing { self.old.control ≡ false → IsErr result }
+        ensures kept { self.new ≡ record self.old { faults = self.new.faults } }
+    {
         let done = self.control.read_whole(entry_place(t), out);
         counted(&mut self.faults, done)
     }
 
-    fn write_control(&mut self, t: InstNo, bytes: &[u8; 32]) -> Result<(), Failed> {
+    fn write_control(&mut self, t: InstNo, bytes: &[u8; 32]) -> Result<(), Failed>
+        requires { t.0 < 8 }
+        ensures faults { Counts (IsErr result) self.old.faults self.new.faults }
+        ensures missing { self.old.control ≡ false → IsErr result }
+        ensures kept { self.new ≡ record self.old { faults = self.new.faults } }
+    {
         let place = SeekFrom::Start(entry_place(t));
         let done = self.control.write(place, bytes);
         counted(&mut self.faults, done)
@@ -151,7 +209,7 @@ fn entry_place(t: InstNo) -> u64
 // What a call on a file answers. A failure is counted.
 fn counted<T>(faults: &mut u64, done: io::Result<T>) -> Result<T, Failed>
     ensures ok { IfOk result (λ value. done ≡ Ok value) }
-    ensures err { IsErr result → IsErr done }
+    ensures err { IsErr result ↔ IsErr done }
     ensures faults { Counts (IsErr result) faults.old faults.new }
 {
     match done {

@@ -1,3 +1,5 @@
+ghost use Rattle.std.specs.Prelude.{◌<◌};
+
 use super::*;
 use rac_disk::{Failed, SharedDisk};
 use rac_nums::{BlockNo, InstNo};
