@@ -17,14 +17,13 @@ const LOGS: [&str; 8] = [
 
 /// A shared disk over the files `blocks`, `control` and `log0` to `log7` of a folder.
 ///
-/// Each call on a file that couldn't be opened fails. Each error of a file is a fault, an interruption too,
-/// and no log has an end to its room. A read of a block fails where the file of blocks ends before it, and a
-/// write there makes that file longer.
+/// Each call on a file that couldn't be opened fails. Each error of a file is a fault: an interruption too, and
+/// a folder without room, since a log has no room of its own that could be full. A read of a block fails where
+/// the file of blocks ends before the block does, and a write there makes that file longer.
 ///
-/// A write, an append and a cut sync the file's data and its length before they answer `Ok`. Nothing is
-/// proved of what the files hold: they are trusted to give what was written. A failed append leaves some
-/// first bytes in the log, none of them, a part or all, but a failed write of a block or a control entry may
-/// leave a part too. A later call doesn't take any of that back.
+/// A write, an append and a cut sync the file's data and its length before they answer `Ok`. What the files
+/// hold is not told: they are trusted to give what was written. A failed write of a block or a control entry
+/// may leave a part of it, as a failed append does.
 #[derive(Drop)]
 pub struct FileDisk<F> {
     blocks: DiskFile<F>,
