@@ -4,6 +4,7 @@ use super::*;
 use rac_disk::{Failed, SharedDisk};
 use rac_nums::{BlockNo, InstNo};
 use std::fs;
+use std::process::Abort;
 use std::test::Fail;
 
 const BLOCK: BlockNo = BlockNo(199);
@@ -42,12 +43,8 @@ fn failures<D: SharedDisk>(disk: &mut D) -> [bool; 8] {
     ]
 }
 
-#[test]
-fn a_folder_keeps_what_was_written(rt: HostRuntime) -> Result<(), Fail> {
-    const FOLDER: &str = "file_disk_test_kept";
-    let _ = fs::remove_dir_all(&rt, FOLDER);
-    fs::create_dir(&rt, FOLDER)?;
-    let mut disk = FileDisk::at(&rt, FOLDER, 200)?;
+// The changes that a new disk is to read again.
+fn change<D: SharedDisk>(disk: &mut D) -> Result<(), Failed> {
     disk.write_block(BLOCK, &[1; 512])?;
     disk.write_block(BLOCK, &[2; 512])?;
     disk.write_block(BlockNo(197), &[3; 512])?;
@@ -56,25 +53,31 @@ fn a_folder_keeps_what_was_written(rt: HostRuntime) -> Result<(), Fail> {
     disk.cut_log(THREAD, 9)?;
     disk.cut_log(THREAD, 4)?;
     disk.append(THREAD, b"")?;
-    disk.append(THREAD, b"gh")?;
-    drop(disk);
-    // It has more blocks than are asked for, and keeps them.
-    let mut disk = FileDisk::at(&rt, FOLDER, 1)?;
+    disk.append(THREAD, b"gh")
+}
+
+// Blocks and control entries hold what was written last, or zeros.
+fn see_blocks<D: SharedDisk>(rt: &impl Abort, disk: &mut D) -> Result<(), Failed> {
     for (block, want) in [(199, 2), (198, 0), (197, 3), (0, 0)] {
         assert_eq!(rt;
-            ends_of_block(&mut disk, BlockNo(block))?,
+            ends_of_block(disk, BlockNo(block))?,
             (want, want),
             "block {block}"
         );
     }
     for (thread, want) in [(7, 4), (6, 0), (0, 0)] {
         assert_eq!(rt;
-            ends_of_entry(&mut disk, InstNo(thread))?,
+            ends_of_entry(disk, InstNo(thread))?,
             (want, want),
             "thread {thread}"
         );
     }
-    // The place from which a log is read, and what is read.
+    Ok(())
+}
+
+// A log holds what was appended and not cut.
+fn see_log<D: SharedDisk>(rt: &impl Abort, disk: &mut D) -> Result<(), Failed> {
+    // The place from which it is read, and what is read.
     let cases: [(u64, &[u8]); 5] = [
         (0, b"abcd"),
         (2, b"cdgh"),
@@ -88,7 +91,21 @@ fn a_folder_keeps_what_was_written(rt: HostRuntime) -> Result<(), Fail> {
         assert_eq!(rt; &out[..count], want, "at {at}");
     }
     assert_eq!(rt; (disk.log_len(THREAD)?, disk.log_len(InstNo(6))?), (6, 0));
-    assert_eq!(rt; (disk.faults(), disk.full()), (0, 0));
+    Ok(())
+}
+
+#[test]
+fn a_folder_keeps_what_was_written(rt: HostRuntime) -> Result<(), Fail> {
+    const FOLDER: &str = "file_disk_test_kept";
+    let _ = fs::remove_dir_all(&rt, FOLDER);
+    fs::create_dir(&rt, FOLDER)?;
+    let mut disk = FileDisk::at(&rt, FOLDER, 200)?;
+    change(&mut disk)?;
+    // It has more blocks than are asked for now, and keeps them.
+    let mut again = FileDisk::at(&rt, FOLDER, 1)?;
+    see_blocks(&rt, &mut again)?;
+    see_log(&rt, &mut again)?;
+    assert_eq!(rt; (again.faults(), again.full()), (0, 0));
     fs::remove_dir_all(&rt, FOLDER)?;
     Ok(())
 }
