@@ -43,7 +43,7 @@ Fits-changed last n z row found value node mid x None rise fits is h =
         scn = (let e = fits.scn in omega arith);
         slots = length-set node.slots h.0 (record { wrap = wrap_at node.slots h.0 + 1; end = (slice_index_or node.slots h.0 never).end }) ∙ fits.slots;
         wraps = λ k small. (let e = fits.wraps k small in let up = wrap_at-begun node.slots h.0 k (slice_index_or node.slots h.0 never).end h.1.within in omega arith);
-        own = (let e = h.1.within in let eight = fits.slots in omega arith);
+        own = record { segment = omega arith; slot = (let e = h.1.within in let eight = fits.slots in omega arith); wrap = omega arith };
       },
       refl,
     )
@@ -69,7 +69,7 @@ Fits-committed last n z node rise fits = by_own node.own refl
     by_own None is =
         (record { scn = (let h = fits.scn in omega arith); slots = fits.slots; wraps = λ k small. (let h = fits.wraps k small in omega arith); own = fits.own }, refl)
     by_own (Some x) is =
-        let small_x : x.slot < 8 = rw is at fits.own in
+        let small_x : x.slot < 8 = (rw is at fits.own).slot in
         let eight = fits.slots in (
           record {
             scn = (let h = fits.scn in omega arith);

@@ -6,3 +6,12 @@ pub mod FitsLemmas
 pub mod ProperLemmas
 pub mod LinedLemmas
 pub mod LinedSteps
+pub mod LostLemmas
+pub mod LogLists
+pub mod LogLemmas
+pub mod LogSteps
+pub mod EngineLemmas
+pub mod EndLemmas
+pub mod KeptLemmas
+pub mod RunLemmas
+pub mod AnswerLemmas

@@ -6,9 +6,11 @@ use Rattle.std.proofs.lemmas.Bool.{eq-eqb, ne_eqb, le-ltb, lt-ltb}
 use Rattle.script_text.specs.declared.item.Item.{Item}
 use Rattle.script_text.specs.declared.item.Item.TheVariants.{Session, CrashAfter, CrashMark, Start, Remaster, Checkpoint, Hold}
 use Rattle.script_text.specs.declared.item.Item.TheVariants.{Stmt as Statement}
+use Rattle.script_text.specs.declared.item.Stmt.{Stmt}
+use Rattle.script_text.specs.declared.item.Stmt.TheVariants.{Get, Scan, Put, Add, Del, Lock, Commit, Rollback, Savepoint, RollbackTo}
 use Rattle.script_text.specs.ScriptParts.{ScriptParts}
 use Rattle.script_text.specs.Reading.{item_in, joined, items_of}
-use Rattle.script_text.specs.WellFormed.{RiseWithin, IsItemWithin, AreItemsWithin, IsOpened, opened_after, AreOpened, IsRead, AreRead, IsWellFormed}
+use Rattle.script_text.specs.WellFormed.{HasRowsBelow, RiseWithin, IsItemWithin, AreItemsWithin, IsOpened, opened_after, AreOpened, IsRead, AreRead, IsWellFormed}
 use Rattle.plain_node.specs.Lined.{last_line, NamesBelow, Opens, AreNext}
 use Rattle.script_text.specs.Lines.{opening, opening_in, earlier, AreAnswered}
 use Rattle.row_model.specs.Past.{Past}
@@ -109,12 +111,25 @@ names-below sessions instances rows (Session session inst) within = within.0
 names-below sessions instances rows (Statement session what) within = within.0
 names-below sessions instances rows _ within = tt
 
-module _ (most sessions instances rows : ℕ) (numbers : most < 2 ^ 32) (few : sessions ≤ 1) (one : instances ≤ 1) where
+-- rows below fewer are below 512
+rows-below-512 : (rows : ℕ) (what : Stmt) → rows ≤ 512 → HasRowsBelow rows what → HasRowsBelow 512 what
+rows-below-512 rows (Get row) few below = omega arith
+rows-below-512 rows (Scan first last) few below = (let a = below.0 in omega arith, let b = below.1 in omega arith)
+rows-below-512 rows (Put row value) few below = omega arith
+rows-below-512 rows (Add row by) few below = omega arith
+rows-below-512 rows (Del row) few below = omega arith
+rows-below-512 rows (Lock row) few below = omega arith
+rows-below-512 rows Commit few below = tt
+rows-below-512 rows Rollback few below = tt
+rows-below-512 rows (Savepoint name) few below = tt
+rows-below-512 rows (RollbackTo name) few below = tt
+
+module _ (most sessions instances rows : ℕ) (numbers : most < 2 ^ 32) (few : sessions ≤ 1) (one : instances ≤ 1) (rows_few : rows ≤ 512) where
   plain-item : (opened : ℕ) (item : Item) → IsItemWithin sessions instances rows item → IsOpened opened item → IsRead item → IsPlain (nat_lt 0 opened) item
   plain-item opened (Session session inst) within is read =
       (let h = within.0 in omega arith, (let h = within.1 in omega arith), le-ltb 0 opened (let h = within.0 in omega arith))
   plain-item opened (Statement session what) within is read =
-      (let h = within.0 in omega arith, lt-ltb 0 opened (omega arith), read)
+      (let h = within.0 in omega arith, lt-ltb 0 opened (omega arith), read, rows-below-512 rows what rows_few within.1)
   plain-item opened (CrashAfter inst steps keep) within is read = read
   plain-item opened (CrashMark inst keep) within is read = read
   plain-item opened (Start inst) within is read = read
@@ -139,7 +154,7 @@ module _ (most sessions instances rows : ℕ) (numbers : most < 2 ^ 32) (few : s
 
 pub plain-script : (parts : ScriptParts) → IsWellFormed parts → RunsPlainly 0 false (items_of parts)
 plain-script parts well =
-    plain-lines parts.lines (length parts.names) parts.settings.instances (8 * parts.settings.blocks) (let h = well.lines_fit in omega arith) well.sessions_today well.instances_today
+    plain-lines parts.lines (length parts.names) parts.settings.instances (8 * parts.settings.blocks) (let h = well.lines_fit in omega arith) well.sessions_today well.instances_today (let h = well.blocks_fit in omega arith)
     0 0 (items_of parts) well.lines_rise well.items_within well.items_opened well.items_read
 
 within-at : (sessions instances rows : ℕ) (done : List (ℕ × Item)) (line : ℕ × Item) (rest : List (ℕ × Item)) → AreItemsWithin sessions instances rows (done ++ line ∷ rest) → IsItemWithin sessions instances rows line.1

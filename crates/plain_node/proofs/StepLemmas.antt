@@ -60,12 +60,12 @@ module _ (asked : ℕ → Option Range) where
       by_place (inl h) = rw h.1 (let e = ap (λ (u : SlotUse). u.wrap) (get_or-set_same node.slots k taken never within) in omega (arith, e))
       by_place (inr h) = let e = ap (λ (u : SlotUse). u.wrap) (get_or-set_other node.slots k j taken never h.1) in omega (arith, e)
 
-  wrap_at-taken : (node : Node) (k : ℕ) → k < length node.slots → wrap_at (begun node k).slots k ≡ wrap_at node.slots k + 1
+  pub wrap_at-taken : (node : Node) (k : ℕ) → k < length node.slots → wrap_at (begun node k).slots k ≡ wrap_at node.slots k + 1
   wrap_at-taken node k within =
       ap (λ (u : SlotUse). u.wrap) (get_or-set_same node.slots k (record { wrap = wrap_at node.slots k + 1; end = (slice_index_or node.slots k never).end }) never within)
 
   -- without an own transaction nothing is pending, and with one what is pending stands
-  pending-none : (node : Node) → node.own ≡ None → IsSound asked node → [] ≡ reverse node.pending
+  pub pending-none : (node : Node) → node.own ≡ None → IsSound asked node → [] ≡ reverse node.pending
   pending-none node none sound = rw (sound.own_is ∙ none) at sound.pending
 
   pending-own : (node : Node) (x : Xid) → node.own ≡ Some x → IsSound asked node → map as_pending (changes_of (standing x (reverse node.journal))) ≡ reverse node.pending

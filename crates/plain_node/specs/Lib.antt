@@ -4,3 +4,7 @@ pub mod Steps
 pub mod Sound
 pub mod Runs
 pub mod Lined
+pub mod Logged
+pub mod Lost
+pub mod Engine
+pub mod Ran

@@ -5,7 +5,8 @@ use Rattle.script_text.specs.Lines.{session_in}
 use Rattle.row_model.specs.Good.{Range}
 use Rattle.script_text.specs.declared.item.Item.{Item}
 use Rattle.script_text.specs.declared.item.Item.TheVariants.{Session, Stmt as StmtItem}
-use Rattle.script_text.specs.WellFormed.{IsReadStmt}
+use Rattle.script_text.specs.WellFormed.{HasRowsBelow, IsReadStmt}
+use Rattle.redo_record.specs.Redo.{IsXid}
 use Rattle.plain_node.specs.declared.node.Node.{Node}
 use Rattle.plain_node.specs.Slots.{wrap_at}
 use Rattle.plain_node.specs.Sound.{Sound, Proper, parts_of}
@@ -13,7 +14,7 @@ use Rattle.plain_node.specs.Sound.{Sound, Proper, parts_of}
 -- a line that the node knows, with its one session opened before or not
 abbrev pub IsPlain : Bool → Item → Type 0
 IsPlain opened (Session session inst) = (session ≡ 0) × (inst.0 ≡ 0) × (opened ≡ false)
-IsPlain opened (StmtItem session what) = (session ≡ 0) × (opened ≡ true) × IsReadStmt what
+IsPlain opened (StmtItem session what) = (session ≡ 0) × (opened ≡ true) × IsReadStmt what × HasRowsBelow 512 what
 IsPlain opened _ = ⊥
 
 -- whether the session is opened after a line
@@ -32,7 +33,7 @@ pub record Fits (last : ℕ) (node : Node) : Type 0 where
   pub scn : node.scn.0 ≤ last
   pub slots : length node.slots ≡ 8
   pub wraps : (k : ℕ) → k < 8 → wrap_at node.slots k ≤ last
-  pub own : IfSome node.own (λ x. x.slot < 8)
+  pub own : IfSome node.own IsXid
 
 -- the node can run these lines next
 abbrev pub CanRun : Node → List (ℕ × Item) → Type 0

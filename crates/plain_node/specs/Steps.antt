@@ -74,6 +74,20 @@ Puts old n z row value new =
 abbrev pub version_at : Scn → Pending → Version
 version_at c change = record { row = change.row; value = change.value; c = c }
 
+-- the commit at the newest SCN was answered
+abbrev pub finished : Node → ℕ → Xid → Node
+finished node n x =
+    record {
+      scn = node.scn;
+      known = node.scn;
+      slots = slice_set node.slots x.slot (record { wrap = wrap_at node.slots x.slot; end = node.scn });
+      home = node.home;
+      own = None;
+      pending = [];
+      ended = node.ended ++ map (version_at node.scn) node.pending;
+      journal = node.journal ++ Acked n x node.scn ∷ [];
+    }
+
 -- the transaction committed at the next SCN
 abbrev pub ended_by : Node → ℕ → Xid → Node
 ended_by node n x =

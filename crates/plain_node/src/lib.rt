@@ -1,9 +1,10 @@
 //! The plainest run of a script: one instance, one session, and a list of versions in memory.
 #![tactic(auto)]
 
+mod engine;
 mod node;
 mod run;
 mod slots;
 mod versions;
 
-pub use run::run_script;
+pub use run::{Ran, run_script};

@@ -1,17 +1,18 @@
 ghost use Rattle.std.specs.Prelude.{Option, None};
 ghost use Rattle.row_model.specs.Good.{Range};
+ghost use Rattle.plain_node.specs.Lost.{entered, lost, marked};
 ghost use Rattle.plain_node.specs.Runs.{Fits, IsSound, IsProper};
 ghost use Rattle.std.specs.Prelude.{◌≡◌, ℕ, ◌+◌, ◌^◌, ◌<◌, ◌≤◌, length, IsOkAnd, IfOk, OnOk, IsNone, MatchOption, Some, None, reverse};
 ghost use Rattle.std.specs.Prelude.{[]};
 ghost use Rattle.row_model.specs.Good.{listed_before};
 ghost use Rattle.std.specs.Prelude.{◌∷◌, ◌++◌, map, IfSome};
 ghost use Rattle.plain_node.specs.Slots.{wrap_at, IsLeastUsed, next_xid};
-ghost use Rattle.plain_node.specs.Steps.{value_in, opened, started, got, begun, IsOwn, Puts, version_at, ended_by, committed};
+ghost use Rattle.plain_node.specs.Steps.{value_in, told, opened, started, got, begun, changed, IsOwn, version_at, finished};
 
 use crate::slots::{SlotUse, least_used};
 use crate::versions::{Pending, Version, newest_ended, newest_pending};
 use rac_nums::{InstNo, NoMemory, RowNo, Scn, Sequence, Value, Xid};
-use row_model::{Entry, Journal, RowList};
+use row_model::{Cause, Entry, Journal, RowList};
 use std::alloc::Global;
 
 /// The one instance, what its one session has open, and the journal so far.
@@ -75,7 +76,7 @@ impl Node {
     }
 
     /// Starts a statement at what is known.
-    fn start(&mut self, stmt: u32, session: u16) -> Result<Scn, NoMemory>
+    pub fn start(&mut self, stmt: u32, session: u16) -> Result<Scn, NoMemory>
         ensures s { IfOk result (λ s. s ≡ self.old.known) }
         ensures started { OnOk result (self.new ≡ started self.old stmt session) }
     {
@@ -128,13 +129,19 @@ impl Node {
         }
     }
 
-    /// Answers a put.
-    pub fn put(&mut self, stmt: u32, session: u16, row: RowNo, new: Value) -> Result<(), NoMemory>
+    /// Changes a row for a statement that started at `s`: the transaction, and what the row held.
+    pub fn change(
+        &mut self,
+        stmt: u32,
+        s: Scn,
+        row: RowNo,
+        new: Value,
+    ) -> Result<(Xid, Value), NoMemory>
         requires wraps { (k : ℕ) → k < 8 → wrap_at self.old.slots k + 1 < 2 ^ 32 }
         requires scn { self.old.scn.0 + 1 < 2 ^ 64 }
-        ensures { OnOk result (Puts self.old stmt session row new self.new) }
+        ensures { IfOk result (λ told. (told.1 ≡ value_in self.old s.0 row.0)
+            × ((mid : Node) × IsOwn self.old told.0 mid × (self.new ≡ changed mid stmt told.0 row told.1 new))) }
     {
-        let s = self.start(stmt, session)?;
         let found = self.value(row, s);
         let xid = self.own_or_new();
         self.scn.0 += 1;
@@ -145,36 +152,60 @@ impl Node {
             found,
             new,
         })?;
-        self.pending.push(Pending { row, value: new })
+        self.pending.push(Pending { row, value: new })?;
+        Ok((xid, found))
     }
 
-    /// Answers a commit.
-    pub fn commit(&mut self, alloc: Global, stmt: u32, session: u16) -> Result<(), NoMemory>
-        requires scn { self.old.scn.0 + 1 < 2 ^ 64 }
-        requires slot { IfSome self.old.own (λ x. x.slot < 8) }
-        ensures { OnOk result (self.new ≡ committed self.old stmt session) }
+    /// Answers a commit without a transaction.
+    pub fn answer_plain(&mut self, stmt: u32) -> Result<(), NoMemory>
+        ensures { OnOk result (self.new ≡ told self.old (Entry.Plain stmt)) }
     {
-        let _s = self.start(stmt, session)?;
-        match self.own {
-            None => self.journal.push(Entry::Plain { stmt }),
-            Some(xid) => self.end(alloc, stmt, xid),
-        }
+        self.journal.push(Entry::Plain { stmt })
     }
 
-    /// Makes the end record of the open transaction.
-    fn end(&mut self, alloc: Global, stmt: u32, xid: Xid) -> Result<(), NoMemory>
-        requires scn { self.old.scn.0 + 1 < 2 ^ 64 }
-        requires slot { xid.slot < 8 }
-        ensures { OnOk result (self.new ≡ ended_by self.old stmt xid) }
+    /// Marks the end of a transaction, and gives its SCN.
+    pub fn mark(&mut self, stmt: u32, xid: Xid) -> Result<Scn, NoMemory>
+        requires { self.old.scn.0 + 1 < 2 ^ 64 }
+        ensures marked { OnOk result (self.new ≡ marked self.old stmt xid) }
+        ensures c { IfOk result (λ c. c ≡ self.new.scn) }
     {
         self.scn.0 += 1;
         let c = self.scn;
         self.journal.push(Entry::Marked { stmt, xid, c })?;
+        Ok(c)
+    }
+
+    /// Enters the commit of the newest SCN, whose record has reached the disk.
+    pub fn enter(&mut self, xid: Xid) -> Result<(), NoMemory>
+        ensures { OnOk result (self.new ≡ entered self.old xid) }
+    {
         self.journal.push(Entry::Committed {
             xid,
-            c,
+            c: self.scn,
             inst: InstNo(0),
+        })
+    }
+
+    /// The instance ends by a fault of the disk, and with it the statement under way.
+    pub fn lose(&mut self, stmt: u32) -> Result<(), NoMemory>
+        ensures { OnOk result (self.new ≡ lost self.old stmt) }
+    {
+        self.journal.push(Entry::Ended {
+            inst: InstNo(0),
+            bad: false,
         })?;
+        self.journal.push(Entry::Refused {
+            stmt,
+            cause: Cause::Lost,
+        })
+    }
+
+    /// Answers the commit of the newest SCN: what was pending is part of the database.
+    pub fn finish(&mut self, alloc: Global, stmt: u32, xid: Xid) -> Result<(), NoMemory>
+        requires slot { xid.slot < 8 }
+        ensures { OnOk result (self.new ≡ finished self.old stmt xid) }
+    {
+        let c = self.scn;
         self.journal.push(Entry::Acked { stmt, xid, c })?;
         append_versions(&mut self.ended, self.pending.as_slice(), c)?;
         self.pending = Sequence::new(alloc);

@@ -1,39 +1,64 @@
-ghost use Rattle.std.specs.Prelude.{◌≡◌, ◌<◌, ℕ, List, [], ◌∷◌, ◌++◌, length, All, Option, IfSome, OnOk, IfOk};
-ghost use Rattle.script_text.specs.Lines.{session_in};
+ghost use Rattle.std.specs.Prelude.{◌≡◌, ◌≢◌, ◌<◌, ◌≤◌, ◌⊎◌, ℕ, List, [], ◌∷◌, ◌++◌, Option, None, true, false, IfOk, IsErrOf, IsSomeAnd, OnOk, length};
+ghost use Rattle.rac_io.specs.Counts.{Rose};
+ghost use Rattle.row_model.specs.Good.{Range};
 ghost use Rattle.script_text.specs.declared.item.Item.{Item};
-ghost use Rattle.row_model.specs.Good.{Range, GoodRows, GoodFound, GoodCommits, GoodAcknowledgements, GoodStarts, GoodRowLocks, GoodReplay};
 ghost use Rattle.script_text.specs.ScriptParts.{ScriptParts};
 ghost use Rattle.script_text.specs.Reading.{joined, items_of};
 ghost use Rattle.script_text.specs.WellFormed.{IsWellFormed};
 ghost use Rattle.script_text.specs.Asked.{range_asked, asked};
-ghost use Rattle.script_text.specs.GoodLines.{GoodLines, AllAnswered};
-ghost use Rattle.plain_node.specs.Lined.{IsLined, IsNext, AreNext, IsRight, NamesBelow};
+ghost use Rattle.plain_node.specs.Lined.{IsLined, IsNext, AreNext, IsRight, NamesBelow, last_line};
+ghost use Rattle.plain_node.specs.Engine.{CanGo, IsCalm, IsCutLine, IsKept, IsOneFault, LogsTell};
+ghost use Rattle.plain_node.specs.Lost.{IsGoodSoFar};
+ghost use Rattle.plain_node.specs.Ran.{IsRan, Tells};
 ghost use Rattle.plain_node.specs.Runs.{CanRun, IsSound, IsProper, IsNamed};
 
-use crate::node::Node;
+use crate::engine::{Engine, Stop};
+use rac_disk::SharedDisk;
 use rac_nums::NoMemory;
 use row_model::Journal;
 use script_text::{Item, Script, Stmt, Wave, Waves};
 use std::alloc::Global;
 
-/// Answers a line.
-fn answer(node: &mut Node, alloc: Global, line: u32, item: &Item) -> Result<(), NoMemory>
-    requires { (more : List (ℕ × Item)) × CanRun node.old ((line, item.now) ∷ more) }
-    ensures runs { OnOk result ((more : List (ℕ × Item)) → CanRun node.old ((line, item.now) ∷ more) → CanRun node.new more) }
+/// What a run leaves.
+#[derive(Drop)]
+pub struct Ran {
+    pub journal: Journal,
+    /// Whether a fault of the disk ended it.
+    pub faulted: bool,
+}
+
+/// Does what a line asks.
+fn try_answer<D: SharedDisk>(
+    engine: &mut Engine,
+    alloc: Global,
+    disk: &mut D,
+    line: u32,
+    item: &Item,
+) -> Result<(), Stop>
+    requires { (more : List (ℕ × Item)) × CanGo engine.old ((line, item.now) ∷ more) }
+    ensures runs { OnOk result ((more : List (ℕ × Item)) → CanGo engine.old ((line, item.now) ∷ more) → CanGo engine.new more) }
     ensures sound { OnOk result ((rows : ℕ → Option Range) → rows line ≡ range_asked item.now →
-        IsSound rows node.old → IsSound rows node.new) }
-    ensures proper { OnOk result ((rows : ℕ → Option Range) → IsSound rows node.old → IsProper node.old → IsProper node.new) }
-    ensures named { OnOk result ((sessions : ℕ) → NamesBelow sessions item.now → IsNamed sessions node.old → IsNamed sessions node.new) }
+        IsSound rows engine.old.node → IsSound rows engine.new.node) }
+    ensures proper { OnOk result ((rows : ℕ → Option Range) → IsSound rows engine.old.node → IsProper engine.old.node → IsProper engine.new.node) }
+    ensures named { OnOk result ((sessions : ℕ) → NamesBelow sessions item.now → IsNamed sessions engine.old.node → IsNamed sessions engine.new.node) }
     ensures lined { OnOk result ((parts : ScriptParts) (done : List (ℕ × Item)) (last : ℕ) → IsNext parts done last (line, item.now) →
-        IsSound (asked parts) node.old → IsProper node.old → IsLined parts done last node.old →
-        IsLined parts (done ++ (line, item.now) ∷ []) line node.new) }
+        IsSound (asked parts) engine.old.node → IsProper engine.old.node → IsLined parts done last engine.old.node →
+        IsLined parts (done ++ (line, item.now) ∷ []) line engine.new.node) }
+    ensures kept { OnOk result ((rows : ℕ → Option Range) → IsSound rows engine.old.node → IsProper engine.old.node →
+        IsKept (D.state disk.old) engine.old → IsKept (D.state disk.new) engine.new) }
+    ensures calm { OnOk result (IsCalm (D.faults disk.old) (D.faults disk.new) (D.full disk.old) (D.full disk.new)) }
+    ensures cut { IsErrOf result Stop.Fault → IsCutLine engine.old.node line item.now engine.new.node }
+    ensures tells { IsErrOf result Stop.Fault → (rows : ℕ → Option Range) → IsSound rows engine.old.node → IsProper engine.old.node →
+        IsKept (D.state disk.old) engine.old → IsOneFault (D.faults disk.old) (D.faults disk.new) (D.full disk.old) (D.full disk.new) →
+        IsSomeAnd (D.state disk.new) (λ it. LogsTell it engine.new.node.journal) }
+    ensures cause { IsErrOf result Stop.Fault → Rose (D.faults disk.old) (D.faults disk.new) ⊎ Rose (D.full disk.old) (D.full disk.new) }
 {
     match item {
-        Item::Session { session, inst } => node.open(*session, *inst),
+        Item::Session { session, inst } => engine.open(*session, *inst),
         Item::Stmt { session, what } => match what {
-            Stmt::Get(row) => node.get(alloc, line, *session, *row),
-            Stmt::Put(row, value) => node.put(line, *session, *row, *value),
-            Stmt::Commit => node.commit(alloc, line, *session),
+            Stmt::Get(row) => engine.get(alloc, line, *session, *row),
+            Stmt::Put(row, value) => engine.put(disk, line, *session, *row, *value),
+            Stmt::Commit => engine.commit(alloc, disk, line, *session),
             // No script asks anything else yet.
             _ => unreachable!(),
         },
@@ -41,56 +66,114 @@ fn answer(node: &mut Node, alloc: Global, line: u32, item: &Item) -> Result<(), 
     }
 }
 
+/// Answers a line. Where a fault of the disk ends the instance, the line is answered as lost.
+fn answer<D: SharedDisk>(
+    engine: &mut Engine,
+    alloc: Global,
+    disk: &mut D,
+    line: u32,
+    item: &Item,
+) -> Result<(), Stop>
+    requires { (more : List (ℕ × Item)) × CanGo engine.old ((line, item.now) ∷ more) }
+    ensures runs { OnOk result ((more : List (ℕ × Item)) → CanGo engine.old ((line, item.now) ∷ more) → CanGo engine.new more) }
+    ensures right { OnOk result ((parts : ScriptParts) (done : List (ℕ × Item)) → IsNext parts done (last_line 0 done) (line, item.now) →
+        IsRight parts done engine.old.node → IsRight parts (done ++ (line, item.now) ∷ []) engine.new.node) }
+    ensures kept { OnOk result ((parts : ScriptParts) (done : List (ℕ × Item)) → IsRight parts done engine.old.node →
+        IsKept (D.state disk.old) engine.old → IsKept (D.state disk.new) engine.new) }
+    ensures calm { OnOk result (IsCalm (D.faults disk.old) (D.faults disk.new) (D.full disk.old) (D.full disk.new)) }
+    ensures lost { IsErrOf result Stop.Fault → (parts : ScriptParts) (done : List (ℕ × Item)) → IsNext parts done (last_line 0 done) (line, item.now) →
+        IsRight parts done engine.old.node → IsGoodSoFar parts engine.new.node.journal }
+    ensures tells { IsErrOf result Stop.Fault → (parts : ScriptParts) (done : List (ℕ × Item)) → IsRight parts done engine.old.node →
+        IsKept (D.state disk.old) engine.old → IsOneFault (D.faults disk.old) (D.faults disk.new) (D.full disk.old) (D.full disk.new) →
+        IsSomeAnd (D.state disk.new) (λ it. LogsTell it engine.new.node.journal) }
+    ensures cause { IsErrOf result Stop.Fault → Rose (D.faults disk.old) (D.faults disk.new) ⊎ Rose (D.full disk.old) (D.full disk.new) }
+    ensures ended { IsErrOf result Stop.Fault → 1 ≤ length engine.new.node.journal }
+{
+    match try_answer(engine, alloc, disk, line, item) {
+        Ok(()) => Ok(()),
+        Err(Stop::Fault) => {
+            engine.node.lose(line)?;
+            Err(Stop::Fault)
+        }
+        Err(Stop::NoMemory) => Err(Stop::NoMemory),
+    }
+}
+
 /// Runs the lines of a wave in order.
-fn run_wave(node: &mut Node, alloc: Global, wave: &Wave) -> Result<(), NoMemory>
-    requires { (more : List (ℕ × Item)) × CanRun node.old (wave.now ++ more) }
-    ensures runs { OnOk result ((more : List (ℕ × Item)) → CanRun node.old (wave.now ++ more) → CanRun node.new more) }
-    ensures right { OnOk result ((parts : ScriptParts) (done : List (ℕ × Item)) → AreNext parts done wave.now →
-        IsRight parts done node.old → IsRight parts (done ++ wave.now) node.new) }
+fn run_wave<D: SharedDisk>(
+    engine: &mut Engine,
+    alloc: Global,
+    disk: &mut D,
+    wave: &Wave,
+) -> Result<(), Stop>
+    requires { (more : List (ℕ × Item)) × CanGo engine.old (wave.now ++ more) }
+    ensures runs { OnOk result ((more : List (ℕ × Item)) → CanGo engine.old (wave.now ++ more) → CanGo engine.new more) }
+    ensures went { OnOk result ((parts : ScriptParts) (done : List (ℕ × Item)) → AreNext parts done wave.now →
+        IsRight parts done engine.old.node → IsRight parts (done ++ wave.now) engine.new.node
+        × (IsKept (D.state disk.old) engine.old → IsKept (D.state disk.new) engine.new)) }
+    ensures calm { OnOk result (IsCalm (D.faults disk.old) (D.faults disk.new) (D.full disk.old) (D.full disk.new)) }
+    ensures lost { IsErrOf result Stop.Fault → (parts : ScriptParts) (done : List (ℕ × Item)) → AreNext parts done wave.now →
+        IsRight parts done engine.old.node → IsGoodSoFar parts engine.new.node.journal
+        × (IsKept (D.state disk.old) engine.old → IsOneFault (D.faults disk.old) (D.faults disk.new) (D.full disk.old) (D.full disk.new) →
+        IsSomeAnd (D.state disk.new) (λ it. LogsTell it engine.new.node.journal)) }
+    ensures cause { IsErrOf result Stop.Fault → Rose (D.faults disk.old) (D.faults disk.new) ⊎ Rose (D.full disk.old) (D.full disk.new) }
+    ensures ended { IsErrOf result Stop.Fault → 1 ≤ length engine.new.node.journal }
 {
     for line in wave.as_slice() {
-        answer(node, alloc, line.0, &line.1)?;
+        answer(engine, alloc, disk, line.0, &line.1)?;
     }
     Ok(())
 }
 
 /// Runs the waves in order.
-fn run_waves(node: &mut Node, alloc: Global, waves: &Waves) -> Result<(), NoMemory>
-    requires { CanRun node.old (joined waves.now) }
-    ensures right { OnOk result ((parts : ScriptParts) → AreNext parts [] (joined waves.now) →
-        IsRight parts [] node.old → IsRight parts (joined waves.now) node.new) }
+fn run_waves<D: SharedDisk>(
+    engine: &mut Engine,
+    alloc: Global,
+    disk: &mut D,
+    waves: &Waves,
+) -> Result<(), Stop>
+    requires { CanGo engine.old (joined waves.now) }
+    ensures went { OnOk result ((parts : ScriptParts) → AreNext parts [] (joined waves.now) →
+        IsRight parts [] engine.old.node → IsRight parts (joined waves.now) engine.new.node
+        × (IsKept (D.state disk.old) engine.old → IsKept (D.state disk.new) engine.new)) }
+    ensures calm { OnOk result (IsCalm (D.faults disk.old) (D.faults disk.new) (D.full disk.old) (D.full disk.new)) }
+    ensures lost { IsErrOf result Stop.Fault → (parts : ScriptParts) → AreNext parts [] (joined waves.now) →
+        IsRight parts [] engine.old.node → IsGoodSoFar parts engine.new.node.journal
+        × (IsKept (D.state disk.old) engine.old → IsOneFault (D.faults disk.old) (D.faults disk.new) (D.full disk.old) (D.full disk.new) →
+        IsSomeAnd (D.state disk.new) (λ it. LogsTell it engine.new.node.journal)) }
+    ensures cause { IsErrOf result Stop.Fault → Rose (D.faults disk.old) (D.faults disk.new) ⊎ Rose (D.full disk.old) (D.full disk.new) }
+    ensures ended { IsErrOf result Stop.Fault → 1 ≤ length engine.new.node.journal }
 {
     for wave in waves.as_slice() {
-        run_wave(node, alloc, wave)?;
+        if let Err(why) = run_wave(engine, alloc, disk, wave) {
+            return Err(why);
+        }
     }
     Ok(())
 }
 
-/// Runs a script on a new node.
-fn run_node(alloc: Global, script: &Script) -> Result<Node, NoMemory>
-    requires { IsWellFormed script.now }
-    ensures { IfOk result (IsRight script.now (items_of script.now)) }
+/// Runs a script over a disk whose logs are empty, and gives the journal of the run. The first fault of
+/// the disk ends it.
+pub fn run_script<D: SharedDisk>(
+    alloc: Global,
+    script: &Script,
+    disk: &mut D,
+) -> Result<Ran, NoMemory>
+    requires well_formed { IsWellFormed script.now }
+    ensures ran { IfOk result (IsRan script.now (D.faults disk.old) (D.faults disk.new) (D.full disk.old) (D.full disk.new)) }
+    ensures tells { IfOk result (λ ran. Tells (D.state disk.old) (D.state disk.new)
+        (IsOneFault (D.faults disk.old) (D.faults disk.new) (D.full disk.old) (D.full disk.new)) ran.journal) }
 {
-    let mut node = Node::new(alloc);
-    run_waves(&mut node, alloc, script.waves())?;
-    Ok(node)
-}
-
-/// Runs a script, and gives the journal of the run.
-pub fn run_script(alloc: Global, script: &Script) -> Result<Journal, NoMemory>
-    requires { IsWellFormed script.now }
-
-    ensures named { IfOk result (All (λ e. IfSome (session_in e) (λ z. z < length script.now.names))) }
-    ensures lines { IfOk result (GoodLines script.now) }
-    ensures answered { IfOk result (AllAnswered script.now) }
-    ensures rows { IfOk result (GoodRows (asked script.now)) }
-    ensures found { IfOk result GoodFound }
-    ensures commits { IfOk result GoodCommits }
-    ensures acknowledgements { IfOk result GoodAcknowledgements }
-    ensures starts { IfOk result GoodStarts }
-    ensures row_locks { IfOk result GoodRowLocks }
-    ensures replay { IfOk result GoodReplay }
-{
-    let node = run_node(alloc, script)?;
-    Ok(node.journal)
+    let mut engine = Engine::new(alloc)?;
+    match run_waves(&mut engine, alloc, disk, script.waves()) {
+        Ok(()) => Ok(Ran {
+            journal: engine.node.journal,
+            faulted: false,
+        }),
+        Err(Stop::Fault) => Ok(Ran {
+            journal: engine.node.journal,
+            faulted: true,
+        }),
+        Err(Stop::NoMemory) => Err(NoMemory),
+    }
 }

@@ -1,6 +1,6 @@
 -- What stands at the front of a redo log, and what a log that was cut reads back as.
 use Rattle.std.specs.Prelude.{◌≡◌, ℕ, suc, ◌<◌, ◌≤◌, ◌⊎◌, List, [], ◌∷◌, length, drop, take}
-use Rattle.std.specs.List.{flat_map, AllByRecursion}
+use Rattle.std.specs.List.{flat_map}
 use Rattle.rac_nums.specs.Bytes.{number_at}
 use Rattle.rac_nums.specs.declared.redo.Redo.{Redo}
 use Rattle.part_image.specs.Cells.{Begins}

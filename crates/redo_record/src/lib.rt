@@ -1,6 +1,18 @@
-//! Redo records as bytes.
+//! Redo records as bytes, and what stands at the front of a redo log.
 #![tactic(auto)]
 
+mod data;
 mod front;
+mod head;
+mod kind;
+mod laws;
+mod record;
+mod start;
+#[cfg(test)]
+mod tests;
+mod undo;
 
-pub use front::Front;
+pub use front::{Front, read_front};
+pub use laws::a_cut_log_reads_back;
+pub use rac_nums::{DataChange, HeadChange, Redo, RedoKind, UndoChange};
+pub use record::write;

@@ -1,133 +1,34 @@
--- A statement keeps the state in agreement with the journal; the session is number 0.
-use Rattle.std.proofs.Common.{◌∙◌, ap}
-use Rattle.std.proofs.lemmas.Result.{on_ok_weaker}
-use Rattle.script_text.specs.Asked.{range_asked, range_of}
-use Rattle.plain_node.proofs.StepLemmas.{IsSound-got, IsSound-put, IsSound-committed, IsProper-opened, IsProper-got, IsProper-put, IsProper-committed}
-use Rattle.script_text.specs.Asked.{asked}
-use Rattle.plain_node.proofs.LinedSteps.{IsLined-opened, IsLined-got, IsLined-put, IsLined-committed}
-use Rattle.plain_node.proofs.FitsLemmas.{Fits-opened, Fits-got, Fits-put, Fits-committed}
+use Rattle.std.proofs.Common.{◌≡◌, ◌∙◌, ap, length, subst, sym}
+use Rattle.std.specs.Prelude.{IsSomeAnd}
+use Rattle.std.specs.Option.{option_and_then}
+use Rattle.rac_disk.specs.Disk.{DiskState}
+use Rattle.script_text.specs.Asked.{asked, range_asked}
+use Rattle.plain_node.specs.declared.node.Node.{Node}
+use Rattle.plain_node.specs.Engine.{LogsTell}
+use Rattle.plain_node.specs.Lined.{last_line}
+use Rattle.plain_node.specs.Lost.{IsGoodSoFar}
+use Rattle.plain_node.proofs.AnswerLemmas.{lost-line, tells-lost}
+use Rattle.plain_node.proofs.LineLemmas.{last_line-push}
 use Rattle.plain_node.proofs.run.answer.Goals as goal
 
-pub returns-in-Get-clause-sound : goal.returns-in-Get-clause-sound
-returns-in-Get-clause-sound c =
-    let zero_is = (rw c.in-Stmt.is at c.requires.1.2.2).0 in
-    on_ok_weaker c.get.result
-    (λ e asked asks sound. let e2 = rw zero_is at e in rw e2
-    (IsSound-got asked c.args.node.now c.args.line c.in-Get.row (asks ∙ (ap range_asked c.in-Stmt.is ∙ ap range_of c.in-Get.is)) sound))
-    c.get.ensures
+pub returns-in-Ok-clause-right : goal.returns-in-Ok-clause-right
+returns-in-Ok-clause-right g c = λ parts done next right.
+    record {
+      sound = c.in-Ok.ensures.sound (asked parts) (ap (option_and_then range_asked) next.asks) right.sound;
+      proper = c.in-Ok.ensures.proper (asked parts) right.sound right.proper;
+      named = c.in-Ok.ensures.named (length parts.names) next.names right.named;
+      lined = rw (last_line-push 0 done (c.args.line, c.args.item.now)) (c.in-Ok.ensures.lined parts done (last_line 0 done) next right.sound right.proper right.lined);
+    }
 
-pub returns-in-Put-clause-sound : goal.returns-in-Put-clause-sound
-returns-in-Put-clause-sound c =
-    let zero_is = (rw c.in-Stmt.is at c.requires.1.2.2).0 in
-    on_ok_weaker c.put.result
-    (λ puts asked asks sound.
-    IsSound-put asked c.args.node.now c.args.line c.in-Put.row c.in-Put.value c.put.new.self c.requires.1.1.slots sound (rw zero_is at puts))
-    c.put.ensures
+pub returns-in-Ok-clause-kept : goal.returns-in-Ok-clause-kept
+returns-in-Ok-clause-kept g c = λ parts done right kept. c.in-Ok.ensures.kept (asked parts) right.sound right.proper kept
 
-pub returns-in-Commit-clause-sound : goal.returns-in-Commit-clause-sound
-returns-in-Commit-clause-sound c =
-    let zero_is = (rw c.in-Stmt.is at c.requires.1.2.2).0 in
-    on_ok_weaker c.commit.result
-    (λ e asked asks sound. let e2 = rw zero_is at e in rw e2 (IsSound-committed asked c.args.node.now c.args.line c.requires.1.1.slots sound))
-    c.commit.ensures
+pub returns-in_ok-lose-in-Err-Fault-clause-lost : goal.returns-in_ok-lose-in-Err-Fault-clause-lost
+returns-in_ok-lose-in-Err-Fault-clause-lost g c = λ fault parts done next right.
+    subst (λ (it : Node). IsGoodSoFar parts it.journal) (sym c.in_ok-lose-in-Err-Fault.ensures)
+    (lost-line parts done c.args.engine.now.node c.try_answer.new.engine.node c.args.line c.args.item.now c.requires.1.runs.2.2 right next (c.in-Err-Fault.ensures.cut (rw c.in-Err-Fault.field-0-is fault)))
 
-pub returns-in-Session-clause-runs : goal.returns-in-Session-clause-runs
-returns-in-Session-clause-runs c =
-    on_ok_weaker c.open.result
-    (λ e more can. rw e (
-      c.args.line,
-      Fits-opened can.0 c.args.line c.in-Session.session c.in-Session.inst c.args.node.now can.2.0 can.1,
-      (rw c.in-Session.is at can.2).3,
-    ))
-    c.open.ensures
-
-pub returns-in-Get-clause-runs : goal.returns-in-Get-clause-runs
-returns-in-Get-clause-runs c =
-    on_ok_weaker c.get.result
-    (λ e more can. rw e (
-      c.args.line,
-      Fits-got can.0 c.args.line c.in-Stmt.session c.in-Get.row c.args.node.now can.2.0 can.1,
-      (rw c.in-Stmt.is at can.2).3,
-    ))
-    c.get.ensures
-
-pub returns-in-Put-clause-runs : goal.returns-in-Put-clause-runs
-returns-in-Put-clause-runs c =
-    on_ok_weaker c.put.result
-    (λ puts more can.
-    let fits = Fits-put can.0 c.args.line c.in-Stmt.session c.in-Put.row c.in-Put.value c.args.node.now c.put.new.self can.2.0 can.1 puts in
-    (c.args.line, fits.0, rw fits.1 (rw c.in-Stmt.is at can.2).3))
-    c.put.ensures
-
-pub returns-in-Commit-clause-runs : goal.returns-in-Commit-clause-runs
-returns-in-Commit-clause-runs c =
-    on_ok_weaker c.commit.result
-    (λ e more can.
-    let fits = Fits-committed can.0 c.args.line c.in-Stmt.session c.args.node.now can.2.0 can.1 in
-    rw e (c.args.line, fits.0, rw fits.1 (rw c.in-Stmt.is at can.2).3))
-    c.commit.ensures
-
-pub returns-in-Session-clause-proper : goal.returns-in-Session-clause-proper
-returns-in-Session-clause-proper c =
-    let plain = (rw c.in-Session.is at c.requires.1.2.2) in
-    on_ok_weaker c.open.result
-    (λ e asked sound proper. let e2 = rw plain.0 at e in rw e2 (IsProper-opened asked c.args.node.now c.in-Session.inst plain.1 proper))
-    c.open.ensures
-
-pub returns-in-Get-clause-proper : goal.returns-in-Get-clause-proper
-returns-in-Get-clause-proper c =
-    let plain = (rw c.in-Stmt.is at c.requires.1.2.2) in
-    on_ok_weaker c.get.result
-    (λ e asked sound proper. let e2 = rw plain.0 at e in rw e2 (IsProper-got asked c.args.node.now c.args.line c.in-Get.row plain.1 sound proper))
-    c.get.ensures
-
-pub returns-in-Put-clause-proper : goal.returns-in-Put-clause-proper
-returns-in-Put-clause-proper c =
-    let plain = (rw c.in-Stmt.is at c.requires.1.2.2) in
-    on_ok_weaker c.put.result
-    (λ puts asked sound proper.
-    IsProper-put asked c.args.node.now c.args.line c.in-Put.row c.in-Put.value c.put.new.self plain.1 sound proper (rw plain.0 at puts))
-    c.put.ensures
-
-pub returns-in-Commit-clause-proper : goal.returns-in-Commit-clause-proper
-returns-in-Commit-clause-proper c =
-    let plain = (rw c.in-Stmt.is at c.requires.1.2.2) in
-    on_ok_weaker c.commit.result
-    (λ e asked sound proper. let e2 = rw plain.0 at e in rw e2 (IsProper-committed asked c.args.node.now c.args.line c.requires.1.1.slots plain.1 sound proper))
-    c.commit.ensures
-
-pub returns-in-Session-clause-lined : goal.returns-in-Session-clause-lined
-returns-in-Session-clause-lined c =
-    let plain = (rw c.in-Session.is at c.requires.1.2.2) in
-    on_ok_weaker c.open.result
-    (λ e parts done last next sound proper lined.
-    let e2 = rw plain.0 at e in
-    rw (e2, c.in-Session.is, plain.0) (IsLined-opened (asked parts) parts done last c.args.node.now c.args.line c.in-Session.inst (rw (c.in-Session.is, plain.0) at next) lined))
-    c.open.ensures
-
-pub returns-in-Get-clause-lined : goal.returns-in-Get-clause-lined
-returns-in-Get-clause-lined c =
-    let plain = (rw c.in-Stmt.is at c.requires.1.2.2) in
-    on_ok_weaker c.get.result
-    (λ e parts done last next sound proper lined.
-    let e2 = rw plain.0 at e in
-    rw (e2, c.in-Stmt.is, c.in-Get.is, plain.0) (IsLined-got (asked parts) parts done last c.args.node.now c.args.line c.in-Get.row (rw (c.in-Stmt.is, c.in-Get.is, plain.0) at next) lined))
-    c.get.ensures
-
-pub returns-in-Put-clause-lined : goal.returns-in-Put-clause-lined
-returns-in-Put-clause-lined c =
-    let plain = (rw c.in-Stmt.is at c.requires.1.2.2) in
-    on_ok_weaker c.put.result
-    (λ puts parts done last next sound proper lined.
-    rw (c.in-Stmt.is, c.in-Put.is, plain.0) (IsLined-put (asked parts) parts done last c.args.node.now c.args.line c.in-Put.row c.in-Put.value c.put.new.self
-    (rw (c.in-Stmt.is, c.in-Put.is, plain.0) at next) plain.1 sound proper lined (rw plain.0 at puts)))
-    c.put.ensures
-
-pub returns-in-Commit-clause-lined : goal.returns-in-Commit-clause-lined
-returns-in-Commit-clause-lined c =
-    let plain = (rw c.in-Stmt.is at c.requires.1.2.2) in
-    on_ok_weaker c.commit.result
-    (λ e parts done last next sound proper lined.
-    let e2 = rw plain.0 at e in
-    rw (e2, c.in-Stmt.is, c.in-Commit.is, plain.0) (IsLined-committed (asked parts) parts done last c.args.node.now c.args.line c.requires.1.1.slots (rw (c.in-Stmt.is, c.in-Commit.is, plain.0) at next) sound lined))
-    c.commit.ensures
+pub returns-in_ok-lose-in-Err-Fault-clause-tells : goal.returns-in_ok-lose-in-Err-Fault-clause-tells
+returns-in_ok-lose-in-Err-Fault-clause-tells g c = λ fault parts done right kept one.
+    subst (λ (it : Node). IsSomeAnd (g.D.SharedDisk.state c.try_answer.new.disk) (λ (disk : DiskState). LogsTell disk it.journal)) (sym c.in_ok-lose-in-Err-Fault.ensures)
+    (tells-lost (g.D.SharedDisk.state c.try_answer.new.disk) c.try_answer.new.engine.node c.args.line (c.in-Err-Fault.ensures.tells (rw c.in-Err-Fault.field-0-is fault) (asked parts) right.sound right.proper kept one))

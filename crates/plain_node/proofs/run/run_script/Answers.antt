@@ -1,12 +1,71 @@
--- The history replays, since it does with what is open after it.
-use Rattle.std.proofs.Common.{reverse}
-use Rattle.row_model.specs.History.{history}
-use Rattle.row_model.specs.Sees.{own_changes}
-use Rattle.row_model.specs.Good.{changes_in}
-use Rattle.plain_node.proofs.ProperLemmas.{Replays-older}
+-- The engine is right at the start, and so at the end or where a fault ended it.
+use Rattle.std.proofs.Common.{◌≡◌, ◌∙◌, [], length, IfSome, ◌<◌, refl, sym, ap, arith, Some, None, false, true}
+use Rattle.std.proofs.lemmas.List.Elements.{All-nil}
+use Rattle.row_model.specs.declared.entry.Entry.{Entry}
+use Rattle.redo_thread.specs.Thread.{ThreadState}
+use Rattle.std.specs.Prelude.{IsErrOf}
+use Rattle.script_text.specs.Reading.{items_of, joined}
+use Rattle.plain_node.specs.declared.engine.Stop.TheVariants.{Fault}
+use Rattle.plain_node.specs.Lined.{AreNext}
+use Rattle.script_text.specs.Lines.{session_in}
+use Rattle.script_text.specs.Asked.{asked}
+use Rattle.plain_node.proofs.EngineLemmas.{kept-new, kept-tells}
+use Rattle.plain_node.proofs.LineLemmas.{plain-script, all-next}
+use Rattle.plain_node.proofs.RunLemmas.{right-good, right-new}
 use Rattle.plain_node.proofs.run.run_script.Goals as goal
 
-pub returns-clause-replay : goal.returns-clause-replay
-returns-clause-replay c =
-    let journal = c.in_ok-node.node.journal in
-    Replays-older (own_changes 0 (reverse journal)) (changes_in (history journal)) c.in_ok-node.ensures.proper.replays
+pub run_waves-requires : goal.run_waves-requires
+run_waves-requires g c =
+    rw c.waves.ensures (record {
+      runs = (0, c.in_ok-engine.ensures.fits, rw c.in_ok-engine.ensures.home (plain-script c.args.script.now c.requires.well_formed));
+      number = ap (λ (t : ThreadState). t.number) c.in_ok-engine.ensures.thread;
+      small = rw c.in_ok-engine.ensures.thread (omega arith);
+    })
+
+pub returns-in-Ok-clause-ran : goal.returns-in-Ok-clause-ran
+returns-in-Ok-clause-ran g c =
+    let parts = c.args.script.now in
+    let new = c.in_ok-engine.ensures in
+    let next : AreNext parts [] (joined c.waves.result.now) = rw c.waves.ensures (all-next parts [] (items_of parts) c.requires.well_formed refl) in
+    let went = rw c.waves.ensures at (c.in-Ok.ensures.went parts next (right-new parts c.in_ok-engine.engine.node new.journal (new.sound (asked parts)) new.proper)) in
+    record {
+      good = right-good parts (items_of parts) c.run_waves.new.engine.node went.0;
+      answered = λ calm. went.0.lined.answered;
+      calm = λ calm. c.in-Ok.ensures.calm;
+      cause = λ faulted. absurd (cc faulted);
+      ended = λ faulted. absurd (cc faulted);
+    }
+
+pub returns-in-Ok-clause-tells : goal.returns-in-Ok-clause-tells
+returns-in-Ok-clause-tells g c = λ empty one.
+    let parts = c.args.script.now in
+    let new = c.in_ok-engine.ensures in
+    let next : AreNext parts [] (joined c.waves.result.now) = rw c.waves.ensures (all-next parts [] (items_of parts) c.requires.well_formed refl) in
+    let went = c.in-Ok.ensures.went parts next (right-new parts c.in_ok-engine.engine.node new.journal (new.sound (asked parts)) new.proper) in
+    let own : c.in_ok-engine.engine.node.own ≡ None = sym (new.sound (asked parts)).own_is ∙ rw new.journal refl in
+    kept-tells (g.D.SharedDisk.state c.run_waves.new.disk) c.run_waves.new.engine went.0.proper (went.1 (kept-new (g.D.SharedDisk.state c.args.disk.now) c.in_ok-engine.engine new.thread new.journal own empty))
+
+pub returns-in-Err-Fault-clause-ran : goal.returns-in-Err-Fault-clause-ran
+returns-in-Err-Fault-clause-ran g c =
+    let parts = c.args.script.now in
+    let new = c.in_ok-engine.ensures in
+    let next : AreNext parts [] (joined c.waves.result.now) = rw c.waves.ensures (all-next parts [] (items_of parts) c.requires.well_formed refl) in
+    let fault : IsErrOf c.run_waves.result Fault = rw (c.in-Err-Fault.is, c.in-Err-Fault.field-0-is) refl in
+    let lost = c.run_waves.ensures.lost fault parts next (right-new parts c.in_ok-engine.engine.node new.journal (new.sound (asked parts)) new.proper) in
+    record {
+      good = lost.0;
+      answered = λ calm. absurd (cc calm);
+      calm = λ calm. absurd (cc calm);
+      cause = λ faulted. c.run_waves.ensures.cause fault;
+      ended = λ faulted. c.run_waves.ensures.ended fault;
+    }
+
+pub returns-in-Err-Fault-clause-tells : goal.returns-in-Err-Fault-clause-tells
+returns-in-Err-Fault-clause-tells g c = λ empty one.
+    let parts = c.args.script.now in
+    let new = c.in_ok-engine.ensures in
+    let next : AreNext parts [] (joined c.waves.result.now) = rw c.waves.ensures (all-next parts [] (items_of parts) c.requires.well_formed refl) in
+    let fault : IsErrOf c.run_waves.result Fault = rw (c.in-Err-Fault.is, c.in-Err-Fault.field-0-is) refl in
+    let lost = c.run_waves.ensures.lost fault parts next (right-new parts c.in_ok-engine.engine.node new.journal (new.sound (asked parts)) new.proper) in
+    let own : c.in_ok-engine.engine.node.own ≡ None = sym (new.sound (asked parts)).own_is ∙ rw new.journal refl in
+    lost.1 (kept-new (g.D.SharedDisk.state c.args.disk.now) c.in_ok-engine.engine new.thread new.journal own empty) one

@@ -3,14 +3,12 @@ use Rattle.script_text.specs.declared.item.Item.{Item}
 use Rattle.std.proofs.Common.{ℕ, List, get_or, ◌∙◌, ◌++◌, ◌+◌, ◌≤◌, drop, length, rules, ap}
 use Rattle.std.proofs.lemmas.List.{drop_all}
 use Rattle.std.proofs.Common.{◌∷◌, [], append_assoc, append-nil, subst}
-use Rattle.std.specs.Option.{option_and_then}
-use Rattle.script_text.specs.Asked.{asked, range_asked}
 use Rattle.plain_node.specs.Lined.{last_line, IsRight}
-use Rattle.plain_node.proofs.LineLemmas.{drop-item, last_line-push}
+use Rattle.plain_node.proofs.LineLemmas.{drop-item}
 use Rattle.plain_node.proofs.run.run_wave.Goals as goal
 
 pub answer-requires : goal.answer-requires
-answer-requires c =
+answer-requires g c =
     let cut = drop-item c.args.wave.now c.loop-line.line-index c.line-item.result (search rules)
     (c.line-item.is ∙ ap (λ (lines : List (ℕ × Item)). get_or lines c.loop-line.line-index c.line-item.result) c.as_slice-line-items.ensures) in (
       drop (c.loop-line.line-index + 1) c.args.wave.now ++ c.requires.0,
@@ -18,37 +16,33 @@ answer-requires c =
     )
 
 pub loop-line-preserved : goal.loop-line-preserved
-loop-line-preserved c =
+loop-line-preserved g c =
     let cut = drop-item c.args.wave.now c.loop-line.line-index c.line-item.result (search rules)
     (c.line-item.is ∙ ap (λ (lines : List (ℕ × Item)). get_or lines c.loop-line.line-index c.line-item.result) c.as_slice-line-items.ensures) in
     record {
       runs = λ more can. c.in_ok-answer.ensures.runs (drop (c.loop-line.line-index + 1) c.args.wave.now ++ more) (rw cut at (c.loop-line.invariant.runs more can));
-      right = λ parts before next r.
-          let so_far = c.loop-line.invariant.right parts before next r in
+      went = λ parts before next r.
+          let so_far = c.loop-line.invariant.went parts before next r in
           let done = so_far.0 in
           let after = rw cut at so_far.2 in
-          let line = c.line-item.result in
-          let right = so_far.3 in (
+          let line = c.line-item.result in (
             done ++ line ∷ [],
             append_assoc done (line ∷ []) (drop (c.loop-line.line-index + 1) c.args.wave.now) ∙ rw cut at so_far.1,
             after.1,
-            record {
-              sound = c.in_ok-answer.ensures.sound (asked parts) (ap (option_and_then range_asked) after.0.asks) right.sound;
-              proper = c.in_ok-answer.ensures.proper (asked parts) right.sound right.proper;
-              named = c.in_ok-answer.ensures.named (length parts.names) after.0.names right.named;
-              lined = rw (last_line-push 0 done line) (c.in_ok-answer.ensures.lined parts done (last_line 0 done) after.0 right.sound right.proper right.lined);
-            },
+            c.in_ok-answer.ensures.right parts done after.0 so_far.3,
+            λ kept. c.in_ok-answer.ensures.kept parts done so_far.3 (so_far.4 kept),
           );
+      calm = (c.in_ok-answer.ensures.calm.0 ∙ c.loop-line.invariant.calm.0, c.in_ok-answer.ensures.calm.1 ∙ c.loop-line.invariant.calm.1);
     }
 
 pub returns-clause-runs : goal.returns-clause-runs
-returns-clause-runs c more can =
+returns-clause-runs g c more can =
     let le : length c.args.wave.now ≤ c.loop-line.line-index = search rules in
     rw (drop_all c.loop-line.line-index c.args.wave.now le) at (c.loop-line.invariant.runs more can)
 
-pub returns-clause-right : goal.returns-clause-right
-returns-clause-right c parts before next r =
+pub returns-clause-went : goal.returns-clause-went
+returns-clause-went g c parts before next r =
     let le : length c.args.wave.now ≤ c.loop-line.line-index = search rules in
-    let so_far = c.loop-line.invariant.right parts before next r in
+    let so_far = c.loop-line.invariant.went parts before next r in
     let all = rw (drop_all c.loop-line.line-index c.args.wave.now le, append-nil so_far.0) at so_far.1 in
-    subst (λ (done : List (ℕ × Item)). IsRight parts done c.loop-line.node) all so_far.3
+    (subst (λ (done : List (ℕ × Item)). IsRight parts done c.loop-line.engine.node) all so_far.3, so_far.4)

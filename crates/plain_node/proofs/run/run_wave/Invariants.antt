@@ -1,14 +1,20 @@
 use Rattle.std.proofs.Common.{◌≡◌, ℕ, List, ◌++◌, drop}
 use Rattle.script_text.specs.declared.item.Item.{Item}
 use Rattle.script_text.specs.ScriptParts.{ScriptParts}
-use Rattle.plain_node.specs.Runs.{CanRun}
+use Rattle.plain_node.specs.Engine.{CanGo, IsCalm, IsKept}
 use Rattle.plain_node.specs.Lined.{AreNext, IsRight}
 use Rattle.plain_node.proofs.run.run_wave.Given as goal
 
--- what is left can be run and comes next, and the node is right for what was run
+-- what is left can be run and comes next, and the engine is right for what was run
 abbrev pub invariant-loop-line : goal.invariant-loop-line
-invariant-loop-line l = record {
-  runs : (more : List (ℕ × Item)) → CanRun l.fn.node (l.wave ++ more) → CanRun l.node (drop l.line-index l.wave ++ more);
-  right : (parts : ScriptParts) (before : List (ℕ × Item)) → AreNext parts before l.wave → IsRight parts before l.fn.node →
-      (done : List (ℕ × Item)) × (done ++ drop l.line-index l.wave ≡ before ++ l.wave) × AreNext parts done (drop l.line-index l.wave) × IsRight parts done l.node;
-}
+invariant-loop-line g l =
+    let state = g.D.SharedDisk.state in
+    let faults = g.D.SharedDisk.faults in
+    let full = g.D.SharedDisk.full in
+    record {
+      runs : (more : List (ℕ × Item)) → CanGo l.fn.engine (l.wave ++ more) → CanGo l.engine (drop l.line-index l.wave ++ more);
+      went : (parts : ScriptParts) (before : List (ℕ × Item)) → AreNext parts before l.wave → IsRight parts before l.fn.engine.node →
+          (done : List (ℕ × Item)) × (done ++ drop l.line-index l.wave ≡ before ++ l.wave) × AreNext parts done (drop l.line-index l.wave) × IsRight parts done l.engine.node
+          × (IsKept (state l.fn.disk) l.fn.engine → IsKept (state l.disk) l.engine);
+      calm : IsCalm (faults l.fn.disk) (faults l.disk) (full l.fn.disk) (full l.disk);
+    }

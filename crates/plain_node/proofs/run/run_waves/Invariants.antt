@@ -2,14 +2,20 @@ use Rattle.std.proofs.Common.{◌≡◌, ℕ, List, [], ◌++◌, drop}
 use Rattle.script_text.specs.declared.item.Item.{Item}
 use Rattle.script_text.specs.ScriptParts.{ScriptParts}
 use Rattle.script_text.specs.Reading.{joined}
-use Rattle.plain_node.specs.Runs.{CanRun}
+use Rattle.plain_node.specs.Engine.{CanGo, IsCalm, IsKept}
 use Rattle.plain_node.specs.Lined.{AreNext, IsRight}
 use Rattle.plain_node.proofs.run.run_waves.Given as goal
 
--- what is left can be run and comes next, and the node is right for what was run
+-- what is left can be run and comes next, and the engine is right for what was run
 abbrev pub invariant-loop-wave : goal.invariant-loop-wave
-invariant-loop-wave l = record {
-  runs : CanRun l.node (joined (drop l.wave-index l.waves));
-  right : (parts : ScriptParts) → AreNext parts [] (joined l.waves) → IsRight parts [] l.fn.node →
-      (done : List (ℕ × Item)) × (done ++ joined (drop l.wave-index l.waves) ≡ joined l.waves) × AreNext parts done (joined (drop l.wave-index l.waves)) × IsRight parts done l.node;
-}
+invariant-loop-wave g l =
+    let state = g.D.SharedDisk.state in
+    let faults = g.D.SharedDisk.faults in
+    let full = g.D.SharedDisk.full in
+    record {
+      runs : CanGo l.engine (joined (drop l.wave-index l.waves));
+      went : (parts : ScriptParts) → AreNext parts [] (joined l.waves) → IsRight parts [] l.fn.engine.node →
+          (done : List (ℕ × Item)) × (done ++ joined (drop l.wave-index l.waves) ≡ joined l.waves) × AreNext parts done (joined (drop l.wave-index l.waves)) × IsRight parts done l.engine.node
+          × (IsKept (state l.fn.disk) l.fn.engine → IsKept (state l.disk) l.engine);
+      calm : IsCalm (faults l.fn.disk) (faults l.disk) (full l.fn.disk) (full l.disk);
+    }

@@ -1,0 +1,4 @@
+pub mod LogLemmas
+pub mod OneWay
+pub mod StandingLemmas
+pub mod ThreadLemmas

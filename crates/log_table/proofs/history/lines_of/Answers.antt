@@ -1,0 +1,16 @@
+use Rattle.std.proofs.Common.{◌∙◌, ◌+◌, List, arith, ap, sym, drop, filter_map}
+use Rattle.rac_nums.specs.declared.redo.Redo.{Redo}
+use Rattle.log_table.specs.LogHistory.{in_order}
+use Rattle.log_table.specs.Logs.{records_of}
+use Rattle.log_table.specs.Standing.{line_by, lines_by}
+use Rattle.log_table.specs.declared.line.HistoryLine.{HistoryLine}
+use Rattle.log_table.proofs.StandingLemmas.{lines_step}
+use Rattle.log_table.proofs.history.lines_of.Goals as goal
+
+pub loop-thread-preserved : goal.loop-thread-preserved
+loop-thread-preserved c =
+    let standing = c.args.standing.now in
+    let thread = c.loop-thread.thread in
+    let entered = c.in_ok-enter_thread.ensures ∙ ap (λ (records : List Redo). in_order c.loop-thread.lines.items (filter_map (line_by standing thread) records)) c.as_slice.ensures.value in
+    let step = lines_step standing c.loop-thread.lines.items c.args.threads.now thread c.index-threads-thread.result (omega arith) c.index-threads-thread.is in
+    ap (λ (lines : List HistoryLine). in_order lines (lines_by standing (thread + 1) (records_of (drop (thread + 1) c.args.threads.now)))) entered ∙ sym step ∙ c.loop-thread.invariant

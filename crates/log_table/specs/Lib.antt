@@ -1,0 +1,3 @@
+pub mod LogHistory
+pub mod Logs
+pub mod Standing

@@ -1,0 +1,22 @@
+use Rattle.std.proofs.Common.{◌≡◌, ◌∙◌, ap, refl, subst, sym}
+use Rattle.plain_redo.specs.Records.{change_record}
+use Rattle.plain_node.specs.declared.node.Node.{Node}
+use Rattle.plain_node.specs.Steps.{IsOwn, started}
+use Rattle.plain_node.proofs.KeptLemmas.{put-kept, started-tells}
+use Rattle.plain_node.proofs.engine.Engine.put.Goals as goal
+
+pub returns-in-Err-clause-tells : goal.returns-in-Err-clause-tells
+returns-in-Err-clause-tells g c = λ fault asked sound proper kept.
+    started-tells (g.D.SharedDisk.state c.args.disk.now) (g.D.SharedDisk.state c.make_room.new.disk) c.args.self.now c.make_room.new.self.node c.args.stmt
+    (c.in-Err.ensures.node ∙ c.in_ok-s.ensures.started ∙ ap (started c.args.self.now.node c.args.stmt) c.requires.session) c.in-Err.ensures.saved proper kept
+
+pub returns-clause-kept : goal.returns-clause-kept
+returns-clause-kept g c = λ asked sound proper kept.
+    let told = c.in_ok-xid.ensures in
+    let before = c.make_room.ensures.node ∙ c.in_ok-s.ensures.started ∙ ap (started c.args.self.now.node c.args.stmt) c.requires.session in
+    let node = c.append.ensures.node in
+    put-kept asked (g.D.SharedDisk.state c.args.disk.now) (g.D.SharedDisk.state c.make_room.new.disk) c.args.self.now c.append.new.self c.args.stmt c.in_ok-xid.xid c.args.row
+    c.in_ok-xid.found c.in_ok-xid.found c.args.new told.1.0 c.make_room.new.self.thread c.change_record.result c.in_default.ensures.made
+    (subst (λ (it : Node). IsOwn it c.in_ok-xid.xid told.1.0) before told.1.1) (node ∙ told.1.2)
+    (c.change_record.ensures.made ∙ ap (λ (it : Node). change_record c.in_ok-xid.xid it.scn c.args.row c.in_ok-xid.found c.args.new) (sym node))
+    c.change_record.ensures.is_redo c.append.ensures.thread sound proper kept

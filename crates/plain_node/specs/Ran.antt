@@ -1,0 +1,26 @@
+-- What a run over a disk leaves.
+use Rattle.std.specs.Prelude.{◌≡◌, ◌≤◌, ◌⊎◌, ℕ, List, [], length, true, false, Option, IsSomeAnd}
+use Rattle.rac_io.specs.Counts.{Rose}
+use Rattle.rac_disk.specs.Disk.{DiskState}
+use Rattle.row_model.specs.declared.entry.Entry.{Entry}
+use Rattle.script_text.specs.GoodLines.{AllAnswered}
+use Rattle.script_text.specs.ScriptParts.{ScriptParts}
+use Rattle.plain_node.specs.declared.run.Ran.{Ran}
+use Rattle.plain_node.specs.Engine.{HoldsLog, IsCalm, IsOneFault, LogsTell}
+use Rattle.plain_node.specs.Lost.{IsGoodSoFar}
+
+-- no log has a byte
+abbrev pub HasEmptyLogs : DiskState → Type 0
+HasEmptyLogs it = HoldsLog it []
+
+-- The journal of a run is good. Where no call of the disk failed each statement is answered, and no count rose.
+pub record IsRan (parts : ScriptParts) (faults faults_now full full_now : ℕ) (ran : Ran) : Type 0 where
+  pub good : IsGoodSoFar parts ran.journal
+  pub answered : ran.faulted ≡ false → AllAnswered parts ran.journal
+  pub calm : ran.faulted ≡ false → IsCalm faults faults_now full full_now
+  pub cause : ran.faulted ≡ true → Rose faults faults_now ⊎ Rose full full_now
+  pub ended : ran.faulted ≡ true → 1 ≤ length ran.journal
+
+-- The logs on the disk, which were empty, tell the history of the journal, where one call failed at most.
+abbrev pub Tells : Option DiskState → Option DiskState → Type 0 → List Entry → Type 0
+Tells disk disk_now one_fault journal = IsSomeAnd disk HasEmptyLogs → one_fault → IsSomeAnd disk_now (λ it. LogsTell it journal)
