@@ -92,7 +92,8 @@ impl<F: Read + Write + Seek + OpenFile> DiskFile<F> {
         file.sync_data()
     }
 
-    /// Cuts the file to its first `len` bytes where it has more, and syncs its length.
+    /// Cuts the file to its first `len` bytes where it has more, and syncs its length, also where it has no
+    /// more. A failed cut leaves the file as it was or cut.
     pub fn cut(&self, len: u64) -> io::Result<()>
         ensures missing { self.now ≡ false → IsErr result }
     {
@@ -101,9 +102,9 @@ impl<F: Read + Write + Seek + OpenFile> DiskFile<F> {
         };
         if len < file.metadata()?.len() {
             file.set_len(len)?;
-            file.sync_data()?;
         }
-        Ok(())
+        // A cut that failed may have left the length short and not synced.
+        file.sync_data()
     }
 }
 

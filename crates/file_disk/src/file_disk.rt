@@ -19,11 +19,24 @@ const LOGS: [&str; 8] = [
 ///
 /// Each call on a file that couldn't be opened fails. Each error of a file is a fault: an interruption too, and
 /// a folder without room, since a log has no room of its own that could be full. A read of a block fails where
-/// the file of blocks ends before the block does, and a write there makes that file longer.
+/// the file of blocks ends before the block does, and a write there makes that file longer, with zeros between.
 ///
-/// A write, an append and a cut sync the file's data and its length before they answer `Ok`. What the files
-/// hold is not told: they are trusted to give what was written. A failed write of a block or a control entry
-/// may leave a part of it, as a failed append does.
+/// # What is synced
+///
+/// A write, an append and a cut sync the file's data and its length before they answer `Ok`; `at` syncs the
+/// names. The other calls sync nothing: they may give what a failed call left and a crash would lose. What the
+/// files hold is not told: they are trusted to give what was written.
+///
+/// # What a failed call leaves
+///
+/// - A write: the block or the entry as it was, written whole, or a part of it new and the rest old. The last
+///   is more than `SharedDisk` names. Past the end of the file of blocks that file may end in a block.
+/// - An append: some first bytes behind the log: none, a part or all.
+/// - A cut: the log as it was or cut.
+/// - Any other call: the files as they were, and anything in `out`.
+///
+/// Where only the sync failed, the files read as if the change were done, and a crash may still lose it or a
+/// part of it, also after a later `Ok`.
 #[derive(Drop)]
 pub struct FileDisk<F> {
     blocks: DiskFile<F>,

@@ -43,15 +43,26 @@ fn failures<D: SharedDisk>(disk: &mut D) -> [bool; 8] {
     ]
 }
 
+fn fill_block<D: SharedDisk>(disk: &mut D, b: BlockNo, byte: u8) -> Result<(), Failed>
+    requires { b.0 < 200 }
+{
+    disk.write_block(b, &[byte; 512])
+}
+
 // The changes that a new disk is to read again.
-fn change<D: SharedDisk>(disk: &mut D) -> Result<(), Failed> {
-    disk.write_block(BLOCK, &[1; 512])?;
-    disk.write_block(BLOCK, &[2; 512])?;
-    disk.write_block(BlockNo(197), &[3; 512])?;
-    disk.write_control(THREAD, &[4; 32])?;
+fn change_blocks<D: SharedDisk>(disk: &mut D) -> Result<(), Failed> {
+    for (block, byte) in [(199, 1), (199, 2), (197, 3)] {
+        fill_block(disk, BlockNo(block), byte)?;
+    }
+    disk.write_control(THREAD, &[4; 32])
+}
+
+fn change_log<D: SharedDisk>(disk: &mut D) -> Result<(), Failed> {
     disk.append(THREAD, b"abcdef")?;
-    disk.cut_log(THREAD, 9)?;
-    disk.cut_log(THREAD, 4)?;
+    // A cut past the end changes nothing.
+    for len in [9, 4] {
+        disk.cut_log(THREAD, len)?;
+    }
     disk.append(THREAD, b"")?;
     disk.append(THREAD, b"gh")
 }
@@ -100,7 +111,8 @@ fn a_folder_keeps_what_was_written(rt: HostRuntime) -> Result<(), Fail> {
     let _ = fs::remove_dir_all(&rt, FOLDER);
     fs::create_dir(&rt, FOLDER)?;
     let mut disk = FileDisk::at(&rt, FOLDER, 200)?;
-    change(&mut disk)?;
+    change_blocks(&mut disk)?;
+    change_log(&mut disk)?;
     // It has more blocks than are asked for now, and keeps them.
     let mut again = FileDisk::at(&rt, FOLDER, 1)?;
     see_blocks(&rt, &mut again)?;
@@ -110,25 +122,34 @@ fn a_folder_keeps_what_was_written(rt: HostRuntime) -> Result<(), Fail> {
     Ok(())
 }
 
+// Which calls fail on a disk over a folder, and then the counts of faults and of full logs.
+fn failures_at(rt: &HostRuntime, folder: &str) -> Result<([bool; 8], u64, u64), Fail> {
+    let mut disk = FileDisk::at(rt, folder, 2)?;
+    let failed = failures(&mut disk);
+    Ok((failed, disk.faults(), disk.full()))
+}
+
+// The first byte of a block and its last, over a folder.
+fn ends_at(rt: &HostRuntime, folder: &str, b: BlockNo) -> Result<(u8, u8), Fail>
+    requires { b.0 < 200 }
+{
+    let mut disk = FileDisk::at(rt, folder, 2)?;
+    Ok(ends_of_block(&mut disk, b)?)
+}
+
 #[test]
 fn files_that_cannot_be_used_fail(rt: HostRuntime) -> Result<(), Fail> {
     const FOLDER: &str = "file_disk_test_failing";
     let _ = fs::remove_dir_all(&rt, FOLDER);
-    let mut disk = FileDisk::at(&rt, FOLDER, 200)?;
-    assert_eq!(rt; failures(&mut disk), [true; 8]);
-    assert_eq!(rt; (disk.faults(), disk.full()), (8, 0));
-    // A folder in the place of a log, and fewer blocks than 200.
+    assert_eq!(rt; failures_at(&rt, FOLDER)?, ([true; 8], 8, 0));
+    // A folder in the place of a log, and a block past the end of the file.
     fs::create_dir(&rt, FOLDER)?;
     fs::create_dir(&rt, "file_disk_test_failing/log7")?;
-    let mut disk = FileDisk::at(&rt, FOLDER, 2)?;
-    assert_eq!(rt;
-        failures(&mut disk),
-        [true, false, true, true, true, true, false, false]
-    );
-    assert_eq!(rt; (disk.faults(), disk.full()), (5, 0));
-    // The block that was written past the end is there now.
-    assert_eq!(rt; ends_of_block(&mut disk, BLOCK)?, (1, 1));
-    assert_eq!(rt; ends_of_block(&mut disk, BlockNo(198))?, (0, 0));
+    let some = [true, false, true, true, true, true, false, false];
+    assert_eq!(rt; failures_at(&rt, FOLDER)?, (some, 5, 0));
+    // The block that was written is there now, behind zeros.
+    assert_eq!(rt; ends_at(&rt, FOLDER, BLOCK)?, (1, 1));
+    assert_eq!(rt; ends_at(&rt, FOLDER, BlockNo(198))?, (0, 0));
     fs::remove_dir_all(&rt, FOLDER)?;
     Ok(())
 }
