@@ -119,18 +119,21 @@ module _ (parts : ScriptParts) where
       → All (IsKnown parts) journal → Each (LineIsProper parts) past → GoodPast (asked parts) past
       → IsLostSoFar parts ((journal ++ Ended (record { 0 = 0 }) false ∷ []) ++ Refused n Lost ∷ [])
   so-far-lost journal past n what same asks later start unended named lines good =
-      record { good = record {
-        named = All-push (IsKnown parts) (journal ++ Ended (record { 0 = 0 }) false ∷ []) (Refused n Lost)
-            (All-push (IsKnown parts) journal (Ended (record { 0 = 0 }) false) named tt) tt;
-        lines = rw all ((rw asks (later, start, refusal-answers parts 0 n (Ended (record { 0 = 0 }) false ∷ past) what), tt), ((tt, tt), lines));
-        rows = rw all good2.rows;
-        found = rw all good2.found;
-        commits = rw all good2.commits;
-        acknowledgements = rw all good2.acknowledgements;
-        starts = rw all good2.starts;
-        row_locks = rw all good2.row_locks;
-        replay = rw all good2.replay;
-      }; ends = rw all (ap (λ (ends : List (InstNo × Bool)). (record { 0 = 0 }, false) ∷ ends) unended); }
+      record {
+        good = record {
+          named = All-push (IsKnown parts) (journal ++ Ended (record { 0 = 0 }) false ∷ []) (Refused n Lost)
+              (All-push (IsKnown parts) journal (Ended (record { 0 = 0 }) false) named tt) tt;
+          lines = rw all ((rw asks (later, start, refusal-answers parts 0 n (Ended (record { 0 = 0 }) false ∷ past) what), tt), ((tt, tt), lines));
+          rows = rw all good2.rows;
+          found = rw all good2.found;
+          commits = rw all good2.commits;
+          acknowledgements = rw all good2.acknowledgements;
+          starts = rw all good2.starts;
+          row_locks = rw all good2.row_locks;
+          replay = rw all good2.replay;
+        };
+        ends = rw all (ap (λ (ends : List (InstNo × Bool)). (record { 0 = 0 }, false) ∷ ends) unended);
+      }
     where
       all : reverse ((journal ++ Ended (record { 0 = 0 }) false ∷ []) ++ Refused n Lost ∷ []) ≡ Refused n Lost ∷ Ended (record { 0 = 0 }) false ∷ past
       all = rw (reverse_push (journal ++ Ended (record { 0 = 0 }) false ∷ []) (Refused n Lost), reverse_push journal (Ended (record { 0 = 0 }) false), same) refl
