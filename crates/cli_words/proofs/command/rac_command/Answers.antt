@@ -1,0 +1,36 @@
+use Rattle.std.proofs.Common.{rules, ap, ap₂, codes, true, false, ◌≡◌, ◌∙◌}
+use Rattle.std.proofs.lemmas.Result.{IfOk-weaker}
+use Rattle.clap.specs.Words.{App, app_of, new_app, with_rule, with_subcommand}
+use Rattle.clap.specs.Simple.{app_of_fields, on_top}
+use Rattle.cli_words.specs.Command.{disk_rule, journal_rule, run_shape}
+use Rattle.cli_words.proofs.command.rac_command.Goals as goal
+
+abbrev alone : App
+alone = on_top (λ s. record s { no_binary_name = true }) (new_app (codes "rac"))
+
+abbrev without_help : App
+without_help = on_top (λ s. record s { disable_help_flag = true; disable_help_subcommand = true }) alone
+
+abbrev set_up : App
+set_up = on_top (λ s. record s { subcommand_required = true }) without_help
+
+pub returns : goal.returns
+returns c =
+    let run_is : app_of c.in_ok-run.run' ≡ with_rule (with_rule (new_app (codes "run")) journal_rule) (disk_rule false) =
+    c.in_ok-run.ensures.shape c.disk.ensures.local
+    ∙ ap₂ with_rule (c.in_ok-arg.ensures.shape c.journal.ensures.local ∙ ap₂ with_rule c.new.ensures.app c.journal.ensures.rule)
+    c.disk.ensures.rule in
+    let audit_is : app_of c.in_ok-audit.audit ≡ with_rule (new_app (codes "audit")) (disk_rule true) =
+    c.in_ok-audit.ensures.shape c.disk-2.ensures.local ∙ ap₂ with_rule c.new-2.ensures.app c.disk-2.ensures.rule in
+    let alone_is : app_of c.no_binary_name.result ≡ alone =
+    ap app_of_fields c.no_binary_name.ensures ∙ ap (λ (a : App). on_top (λ s. record s { no_binary_name = true }) a) c.new-3.ensures.app in
+    let flag_is : app_of c.disable_help_flag.result ≡ on_top (λ s. record s { disable_help_flag = true }) alone =
+    ap app_of_fields c.disable_help_flag.ensures ∙ ap (λ (a : App). on_top (λ s. record s { disable_help_flag = true }) a) alone_is in
+    let help_is : app_of c.disable_help_subcommand.result ≡ without_help =
+    ap app_of_fields c.disable_help_subcommand.ensures ∙ ap (λ (a : App). on_top (λ s. record s { disable_help_subcommand = true }) a) flag_is in
+    let set_up_is : app_of c.subcommand_required.result ≡ set_up =
+    ap app_of_fields c.subcommand_required.ensures ∙ ap (λ (a : App). on_top (λ s. record s { subcommand_required = true }) a) help_is in
+    let with_run : app_of c.in_ok-subcommand.field-0 ≡ with_subcommand set_up run_shape =
+    c.in_ok-subcommand.ensures.shape (search rules) ∙ ap₂ with_subcommand set_up_is (ap (λ (a : App). a.top) run_is) in
+    IfOk-weaker c.subcommand-2.result _ _
+    (λ m h. h.shape (search rules) ∙ ap₂ with_subcommand with_run (ap (λ (a : App). a.top) audit_is)) c.subcommand-2.ensures

@@ -1,0 +1,35 @@
+-- The command line of the program, as clap describes a command.
+use Rattle.std.specs.Prelude.{[], ◌∷◌, Bool, true, false, Some, codes}
+use Rattle.clap.specs.Words.{App, Rule, Shape, new_rule}
+use Rattle.clap.specs.Simple.{new_shape}
+use Rattle.clap.specs.declared.builder.action.ArgAction.TheVariants.{SetTrue}
+
+-- the flag `--journal`
+abbrev pub journal_rule : Rule
+journal_rule = record (new_rule (codes "journal")) { long = Some (codes "journal"); action = Some SetTrue }
+
+-- the option `--disk FOLDER`, which may have to be there
+abbrev pub disk_rule : Bool → Rule
+disk_rule is_required =
+    record (new_rule (codes "disk")) { long = Some (codes "disk"); required = is_required }
+
+-- `run [--journal] [--disk FOLDER]`
+abbrev pub run_shape : Shape
+run_shape = record (new_shape (codes "run")) { rules = journal_rule ∷ disk_rule false ∷ [] }
+
+-- `audit --disk FOLDER`
+abbrev pub audit_shape : Shape
+audit_shape = record (new_shape (codes "audit")) { rules = disk_rule true ∷ [] }
+
+-- One of the two has to be there. The program's name is none of the words, and there is no help.
+abbrev pub rac_app : App
+rac_app = record {
+  top = record (new_shape (codes "rac")) {
+    is_leaf = false;
+    no_binary_name = true;
+    disable_help_flag = true;
+    disable_help_subcommand = true;
+    subcommand_required = true;
+  };
+  subs = run_shape ∷ audit_shape ∷ [];
+}

@@ -1,0 +1,77 @@
+ghost use Rattle.std.specs.Prelude.{◌≡◌, ◌↔◌, IfOk, IfErr, Some, None, Err, false, map, codes, string_bytes};
+ghost use Rattle.clap.specs.Words.{first_of, found_of, rows_of, takes};
+ghost use Rattle.cli_words.specs.Command.{rac_app};
+ghost use Rattle.cli_words.specs.Orders.{order_from, order_in, set_in};
+
+use crate::command::rac_command;
+use crate::error::WordsError;
+use crate::folder::Folder;
+use crate::order::Order;
+use clap::ArgMatches;
+use clap::error::ErrorKind;
+use std::alloc::Global;
+
+/// The order that the words give, those after the program's name: `run [--journal] [--disk FOLDER]` or
+/// `audit --disk FOLDER`. The flags stand in any order, each at most once, and a folder also as `--disk=FOLDER`: so
+/// alone where its name begins with `-`.
+///
+/// # Errors
+///
+/// `Usage` where the words are none of these; `NoMemory` may come at any words.
+pub fn read_words(alloc: Global, words: &[String]) -> Result<Order, WordsError>
+    ensures order { IfOk result (λ order. order_in (map string_bytes words.now) ≡ Some order) }
+    ensures usage { result ≡ Err WordsError.Usage → order_in (map string_bytes words.now) ≡ None }
+    ensures refused { result ≡ Err WordsError.Usage → takes rac_app (map string_bytes words.now) ≡ false }
+{
+    let command = rac_command(alloc)?;
+    match command.try_get_matches_from(words) {
+        Ok(matches) => match matches.subcommand() {
+            Some((name, given)) => order_given(alloc, name, given),
+            None => Err(WordsError::Usage),
+        },
+        Err(error) => Err(error_of(error.kind())),
+    }
+}
+
+fn error_of(kind: ErrorKind) -> WordsError
+    ensures { (result ≡ WordsError.NoMemory) ↔ (kind ≡ ErrorKind.OutOfMemory) }
+{
+    match kind {
+        ErrorKind::OutOfMemory => WordsError::NoMemory,
+        _ => WordsError::Usage,
+    }
+}
+
+/// The order that the subcommand `name` gives with these matches.
+fn order_given(alloc: Global, name: &str, given: &ArgMatches) -> Result<Order, WordsError>
+    ensures order { IfOk result (λ order. order_from name.now (rows_of (found_of given.now)) ≡ Some order) }
+    ensures usage { result ≡ Err WordsError.Usage → order_from name.now (rows_of (found_of given.now)) ≡ None }
+{
+    match name {
+        "run" => Ok(Order::Run {
+            journal: is_set(given, "journal"),
+            folder: folder_given(alloc, given)?,
+        }),
+        "audit" => match folder_given(alloc, given)? {
+            Some(folder) => Ok(Order::Audit { folder }),
+            None => Err(WordsError::Usage),
+        },
+        _ => Err(WordsError::Usage),
+    }
+}
+
+fn is_set(given: &ArgMatches, flag: &str) -> bool
+    ensures { result ≡ set_in flag.now (rows_of (found_of given.now)) }
+{
+    given.get_one::<bool>(flag).unwrap_or(false)
+}
+
+fn folder_given(alloc: Global, given: &ArgMatches) -> Result<Option<Folder>, WordsError>
+    ensures folder { IfOk result (λ folder. folder ≡ first_of (codes "disk") (rows_of (found_of given.now))) }
+    ensures memory { IfErr result (λ error. error ≡ WordsError.NoMemory) }
+{
+    match given.get_str("disk") {
+        Some(name) => Ok(Some(Folder::new(alloc, name)?)),
+        None => Ok(None),
+    }
+}
