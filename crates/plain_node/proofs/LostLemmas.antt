@@ -6,6 +6,7 @@ use Rattle.std.proofs.lemmas.List.Elements.{All-push}
 use Rattle.rac_nums.specs.declared.names.Xid.{Xid}
 use Rattle.rac_nums.specs.declared.names.Scn.{Scn}
 use Rattle.rac_nums.specs.declared.names.InstNo.{InstNo}
+use Rattle.row_model.specs.declared.cause.Cause.{Cause}
 use Rattle.row_model.specs.declared.cause.Cause.TheVariants.{Lost}
 use Rattle.row_model.specs.declared.entry.Entry.{Entry}
 use Rattle.row_model.specs.declared.entry.Entry.TheVariants.{Started, Marked, Committed, Acked, Ended, Refused}
@@ -28,7 +29,7 @@ use Rattle.plain_node.specs.Steps.{version_at, started}
 use Rattle.plain_node.specs.Sound.{Parts, Sound, Proper, parts_of}
 use Rattle.plain_node.specs.Lined.{Lined, last_line, IsNext, IsRight}
 use Rattle.plain_node.specs.Lost.{marked, entered, lost, IsLostSoFar}
-use Rattle.plain_node.specs.Ends.{ends_in}
+use Rattle.plain_node.specs.Ends.{causes_in, ends_in}
 use Rattle.plain_node.proofs.StepLemmas.{reverse_push}
 use Rattle.plain_node.proofs.SoundLemmas.{Sound-started, Sound-committed}
 use Rattle.plain_node.proofs.ProperLemmas.{Proper-started, Proper-committed, Replays-older}
@@ -115,10 +116,10 @@ module _ (rows_of : ℕ → Option Range) where
 module _ (parts : ScriptParts) where
   -- the fault's two entries behind a journal in which the statement has started
   so-far-lost : (journal : List Entry) (past : Past) (n : ℕ) (what : Stmt) → reverse journal ≡ past
-      → stmt_at parts n ≡ Some (0, what) → last_answer parts 0 past < n → IsSome (start_of n past) → ends_in past ≡ []
+      → stmt_at parts n ≡ Some (0, what) → last_answer parts 0 past < n → IsSome (start_of n past) → ends_in past ≡ [] → causes_in past ≡ []
       → All (IsKnown parts) journal → Each (LineIsProper parts) past → GoodPast (asked parts) past
       → IsLostSoFar parts ((journal ++ Ended (record { 0 = 0 }) false ∷ []) ++ Refused n Lost ∷ [])
-  so-far-lost journal past n what same asks later start unended named lines good =
+  so-far-lost journal past n what same asks later start unended unrefused named lines good =
       record {
         good = record {
           named = All-push (IsKnown parts) (journal ++ Ended (record { 0 = 0 }) false ∷ []) (Refused n Lost)
@@ -133,6 +134,7 @@ module _ (parts : ScriptParts) where
           replay = rw all good2.replay;
         };
         ends = rw all (ap (λ (ends : List (InstNo × Bool)). (record { 0 = 0 }, false) ∷ ends) unended);
+        refused = rw all (ap (λ (causes : List Cause). Lost ∷ causes) unrefused);
       }
     where
       all : reverse ((journal ++ Ended (record { 0 = 0 }) false ∷ []) ++ Refused n Lost ∷ []) ≡ Refused n Lost ∷ Ended (record { 0 = 0 }) false ∷ past
@@ -173,7 +175,7 @@ module _ (parts : ScriptParts) (done : List (ℕ × Item)) (node : Node) (n : �
 
   -- as the statement starts
   pub lost-started : IsLostSoFar parts (lost (started node n 0) n).journal
-  lost-started = so-far-lost parts (started node n 0).journal past n what (reverse_push node.journal (Started n 0 node.known)) asks later start proper.unended named lined.lines good
+  lost-started = so-far-lost parts (started node n 0).journal past n what (reverse_push node.journal (Started n 0 node.known)) asks later start proper.unended proper.unrefused named lined.lines good
 
   -- with the own transaction
   module _ (x : Xid) (own_is : node.own ≡ Some x) where
@@ -192,7 +194,7 @@ module _ (parts : ScriptParts) (done : List (ℕ × Item)) (node : Node) (n : �
     -- once it was marked
     pub lost-marked : IsLostSoFar parts (lost (marked (started node n 0) n x) n).journal
     lost-marked =
-        so-far-lost parts (marked (started node n 0) n x).journal (Marked n x c ∷ past) n what past-marked asks later start proper.unended named-marked ((tt, tt), lined.lines)
+        so-far-lost parts (marked (started node n 0) n x).journal (Marked n x c ∷ past) n what past-marked asks later start proper.unended proper.unrefused named-marked ((tt, tt), lined.lines)
         (good-marked (asked parts) past n x c own_new.1 good)
 
     -- the state once the commit is answered
@@ -210,6 +212,6 @@ module _ (parts : ScriptParts) (done : List (ℕ × Item)) (node : Node) (n : �
     pub lost-entered : IsLostSoFar parts (lost (entered (marked (started node n 0) n x) x) n).journal
     lost-entered =
         so-far-lost parts (entered (marked (started node n 0) n x) x).journal (Committed x c (record { 0 = 0 }) ∷ Marked n x c ∷ past) n what
-        (rw (reverse_push (marked (started node n 0) n x).journal (Committed x c (record { 0 = 0 })), past-marked) refl) asks later start proper.unended
+        (rw (reverse_push (marked (started node n 0) n x).journal (Committed x c (record { 0 = 0 })), past-marked) refl) asks later start proper.unended proper.unrefused
         (All-push (IsKnown parts) (marked (started node n 0) n x).journal (Committed x c (record { 0 = 0 })) named-marked tt)
         ((tt, tt), ((tt, tt), lined.lines)) good-entered

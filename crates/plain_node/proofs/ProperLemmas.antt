@@ -75,6 +75,7 @@ module _ (asked : ℕ → Option Range) (z : ℕ) where
         starts = (tt, proper.starts);
         row_locks = (tt, proper.row_locks);
         unended = proper.unended;
+        unrefused = proper.unrefused;
       }
 
   pub Proper-started : (past : Past) (node : Parts) (n : ℕ) (s : Scn) → s.0 ≡ node.known → is_some node.home ≡ true
@@ -96,6 +97,7 @@ module _ (asked : ℕ → Option Range) (z : ℕ) where
         starts = ((let le = proper.acked in omega arith, (let a = started_up_to-le z past in let b = sound.starts in omega arith), by_home node.home opened proper.home proper.at_home), proper.starts);
         row_locks = (tt, proper.row_locks);
         unended = proper.unended;
+        unrefused = proper.unrefused;
       }
     where
       by_home : (o : Option InstNo) → is_some o ≡ true → home_of z past ≡ option_map (λ i. i.0) o → IfSome o (λ i. i.0 ≡ 0)
@@ -121,6 +123,7 @@ module _ (asked : ℕ → Option Range) (z : ℕ) where
         starts = (tt, proper.starts);
         row_locks = (tt, proper.row_locks);
         unended = proper.unended;
+        unrefused = proper.unrefused;
       }
 
   pub Proper-plain : (past : Past) (node : Parts) (n : ℕ) → Proper z past node → Proper z (Plain n ∷ past) node
@@ -141,6 +144,7 @@ module _ (asked : ℕ → Option Range) (z : ℕ) where
         starts = (tt, proper.starts);
         row_locks = (tt, proper.row_locks);
         unended = proper.unended;
+        unrefused = proper.unrefused;
       }
 
   -- a change by x, which is the own transaction by then
@@ -172,6 +176,7 @@ module _ (asked : ℕ → Option Range) (z : ℕ) where
         starts = (tt, proper.starts);
         row_locks = ((λ y h. only y (both_true (is_open y past) (list_any (λ deed. row_of deed == row.0) (standing y past)) h).0), proper.row_locks);
         unended = proper.unended;
+        unrefused = proper.unrefused;
       }
     where
       all : changes_up_to s (history_of_past past) ≡ changes_in (history_of_past past)
@@ -207,6 +212,7 @@ module _ (asked : ℕ → Option Range) (z : ℕ) where
         starts = (tt, (tt, (tt, proper.starts)));
         row_locks = (tt, (tt, (tt, proper.row_locks)));
         unended = proper.unended;
+        unrefused = proper.unrefused;
       }
     where
       own_new : (x.seg.0 ≡ 0) × (stood (is_commit x) past ≡ false)

@@ -10,7 +10,7 @@ use Rattle.script_text.specs.GoodLines.{GoodLines}
 use Rattle.script_text.specs.Lines.{session_in}
 use Rattle.script_text.specs.ScriptParts.{ScriptParts}
 use Rattle.plain_node.specs.declared.node.Node.{Node}
-use Rattle.plain_node.specs.Ends.{ends_in, fault_end}
+use Rattle.plain_node.specs.Ends.{causes_in, ends_in, fault_cause, fault_end}
 use Rattle.plain_node.specs.Steps.{told}
 
 -- the transaction was marked at the next SCN
@@ -38,7 +38,9 @@ pub record IsGoodSoFar (parts : ScriptParts) (journal : List Entry) : Type 0 whe
   pub row_locks : GoodRowLocks journal
   pub replay : GoodReplay journal
 
--- The journal of a run that a fault ended is good so far, and that fault is the one end of an instance in it.
+-- The journal of a run that a fault ended is good so far. That fault is the one end of an instance in it, and the one
+-- refusal is that of the statement that was lost.
 pub record IsLostSoFar (parts : ScriptParts) (journal : List Entry) : Type 0 where
   pub good : IsGoodSoFar parts journal
   pub ends : ends_in (reverse journal) ≡ fault_end
+  pub refused : causes_in (reverse journal) ≡ fault_cause

@@ -6,7 +6,7 @@ use Rattle.row_model.specs.declared.entry.Entry.{Entry}
 use Rattle.script_text.specs.GoodLines.{AllAnswered}
 use Rattle.script_text.specs.ScriptParts.{ScriptParts}
 use Rattle.plain_node.specs.declared.run.Ran.{Ran}
-use Rattle.plain_node.specs.Ends.{ends_in, fault_end}
+use Rattle.plain_node.specs.Ends.{causes_in, ends_in, fault_cause, fault_end}
 use Rattle.plain_node.specs.Engine.{HoldsLog, IsCalm, LogsTell}
 use Rattle.plain_node.specs.Lost.{IsGoodSoFar}
 
@@ -14,7 +14,8 @@ use Rattle.plain_node.specs.Lost.{IsGoodSoFar}
 abbrev pub HasEmptyLogs : DiskState → Type 0
 HasEmptyLogs it = HoldsLog it []
 
--- The journal of a run is good. Where no call of the disk failed each statement is answered, and no count rose.
+-- The journal of a run is good. Where no call of the disk failed each statement is answered, none is refused, and no
+-- count rose; else the fault ended the instance, and the one refusal is that of the statement that was lost.
 pub record IsRan (parts : ScriptParts) (faults faults_now full full_now : ℕ) (ran : Ran) : Type 0 where
   pub good : IsGoodSoFar parts ran.journal
   pub answered : ran.faulted ≡ false → AllAnswered parts ran.journal
@@ -22,6 +23,7 @@ pub record IsRan (parts : ScriptParts) (faults faults_now full full_now : ℕ) (
   pub cause : ran.faulted ≡ true → Rose faults faults_now ⊎ Rose full full_now
   pub ended : ran.faulted ≡ true → 1 ≤ length ran.journal
   pub ends : ends_in (reverse ran.journal) ≡ if ran.faulted then fault_end else []
+  pub refused : causes_in (reverse ran.journal) ≡ if ran.faulted then fault_cause else []
 
 -- The logs on the disk, which were empty, tell the history of the journal, where one call failed at most.
 abbrev pub Tells : Option DiskState → Option DiskState → Type 0 → List Entry → Type 0

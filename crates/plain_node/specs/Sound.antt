@@ -15,7 +15,7 @@ use Rattle.plain_node.specs.declared.node.Node.{Node}
 use Rattle.plain_node.specs.declared.slots.SlotUse.{SlotUse}
 use Rattle.plain_node.specs.declared.versions.Pending.{Pending}
 use Rattle.plain_node.specs.declared.versions.Version.{Version}
-use Rattle.plain_node.specs.Ends.{ends_in}
+use Rattle.plain_node.specs.Ends.{causes_in, ends_in}
 use Rattle.plain_node.specs.Slots.{wrap_at}
 use Rattle.plain_node.specs.Steps.{version_at}
 
@@ -81,3 +81,4 @@ pub record Proper (z : ℕ) (past : Past) (node : Parts) : Type 0 where
   pub starts : Each StartIsProper past
   pub row_locks : Each RowIsFree past
   pub unended : ends_in past ≡ []
+  pub unrefused : causes_in past ≡ []

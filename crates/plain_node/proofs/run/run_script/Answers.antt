@@ -32,6 +32,7 @@ returns-in-Ok-clause-ran g c =
       cause = λ faulted. absurd (cc faulted);
       ended = λ faulted. absurd (cc faulted);
       ends = went.0.proper.unended;
+      refused = went.0.proper.unrefused;
     }
 
 pub returns-in-Ok-clause-tells : goal.returns-in-Ok-clause-tells
@@ -57,6 +58,7 @@ returns-in-Err-Fault-clause-ran g c =
       cause = λ faulted. c.run_waves.ensures.cause fault;
       ended = λ faulted. c.run_waves.ensures.ended fault;
       ends = lost.0.ends;
+      refused = lost.0.refused;
     }
 
 pub returns-in-Err-Fault-clause-tells : goal.returns-in-Err-Fault-clause-tells
