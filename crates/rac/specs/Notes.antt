@@ -27,6 +27,8 @@ status_text status =
 
 -- the line that is told of an exit; none where all was read, run and written
 abbrev pub note_text : Note → ℕ → Option (List ℕ)
-note_text notes.Usage status = Some (codes "usage: rac run [--journal]")
+note_text notes.Usage status = Some (codes "usage: rac run [--journal] [--disk FOLDER] | audit --disk FOLDER")
 note_text (notes.Line n rule) status = Some (codes "line " ++ (decimal n ++ (codes ": " ++ rule_text rule)))
+note_text (notes.BadLog thread place) status =
+    Some (codes "bad log " ++ (decimal thread.0 ++ (codes " at " ++ decimal place)))
 note_text notes.Nothing status = status_text status

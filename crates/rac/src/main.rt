@@ -1,4 +1,6 @@
-//! `rac run [--journal]` runs the script on standard input and writes its report to standard output.
+//! `rac run [--journal] [--disk FOLDER]` runs the script on standard input and writes its report to standard output,
+//! with its disk in a folder, or else in memory. `rac audit --disk FOLDER` writes the history that the redo logs of a
+//! folder's disk tell.
 #![tactic(auto)]
 
 ghost use Rattle.std.specs.Prelude.{◌≡◌, []};
@@ -6,9 +8,12 @@ ghost use Rattle.rac_top.specs.Exits.{NoteFits};
 
 mod notes;
 
+use cli_words::{Folder, Order, WordsError};
+use file_disk::FileDisk;
 use notes::note_line;
-use rac_disk::MemDisk;
+use rac_disk::{MemDisk, SharedDisk};
 use rac_io::{StdSink, StdSource};
+use rac_nums::NoMemory;
 use rac_top::{Exit, Note, rac};
 use row_model::Journal;
 use std::process::ExitCode;
@@ -48,17 +53,40 @@ fn exit_without_words<R: AllocGlobal>(rt: &R, why: io::Error) -> Exit
     }
 }
 
-/// Runs the script on standard input over a new disk in memory.
+/// The folder that the words name; none where they name none, or give no order.
+fn folder_named(rt: &HostRuntime, words: &[String]) -> Result<Option<Folder>, NoMemory> {
+    match cli_words::read_words(rt.alloc(), words) {
+        Ok(Order::Run { folder, .. }) => Ok(folder),
+        Ok(Order::Audit { folder }) => Ok(Some(folder)),
+        Err(WordsError::Usage) => Ok(None),
+        Err(WordsError::NoMemory) => Err(NoMemory),
+    }
+}
+
+/// Does what the words ask over a disk, with standard input and output.
+fn call<D: SharedDisk>(rt: &HostRuntime, words: &[String], disk: &mut D) -> Exit
+    ensures note { NoteFits result.note result.status }
+{
+    let mut source = StdSource::new(rt.stdin());
+    let mut sink = StdSink::new(rt.stdout());
+    rac(rt.alloc(), words, &mut source, &mut sink, disk)
+}
+
+/// Does what the words ask, over the disk in the folder that they name, or over a new disk in memory.
 fn run(rt: &HostRuntime, words: &[String]) -> Exit
     ensures note { NoteFits result.note result.status }
 {
-    let alloc = rt.alloc();
-    let Ok(mut disk) = MemDisk::new(alloc, BLOCKS, LOG_BYTES, Vec::new(alloc)) else {
-        return without_run(rt, 7, Note::Nothing);
-    };
-    let mut source = StdSource::new(rt.stdin());
-    let mut sink = StdSink::new(rt.stdout());
-    rac(alloc, words, &mut source, &mut sink, &mut disk)
+    match folder_named(rt, words) {
+        Ok(Some(folder)) => match FileDisk::at(rt, folder.as_str(), BLOCKS) {
+            Ok(mut disk) => call(rt, words, &mut disk),
+            Err(NoMemory) => without_run(rt, 7, Note::Nothing),
+        },
+        Ok(None) => match MemDisk::new(rt.alloc(), BLOCKS, LOG_BYTES, Vec::new(rt.alloc())) {
+            Ok(mut disk) => call(rt, words, &mut disk),
+            Err(NoMemory) => without_run(rt, 7, Note::Nothing),
+        },
+        Err(NoMemory) => without_run(rt, 7, Note::Nothing),
+    }
 }
 
 fn main(rt: HostRuntime) -> ExitCode {

@@ -6,6 +6,9 @@ use rac_top::{Exit, Note};
 use script_text::Rule;
 use std::alloc::{AllocError, Global};
 
+/// What the words may be.
+const USAGE: &str = "usage: rac run [--journal] [--disk FOLDER] | audit --disk FOLDER";
+
 /// A rule as it is told.
 fn rule_word(rule: Rule) -> &'static str
     ensures { result.now ≡ rule_text rule }
@@ -43,10 +46,14 @@ pub fn note_line(alloc: Global, exit: &Exit) -> Result<Option<String>, AllocErro
     ensures { IfOk result (λ line. option_map string_bytes line ≡ note_text exit.now.note exit.now.status) }
 {
     match exit.note {
-        Note::Usage => Ok(Some(String::from_str(alloc, "usage: rac run [--journal]")?)),
+        Note::Usage => Ok(Some(String::from_str(alloc, USAGE)?)),
         Note::Line { n, rule } => {
             let word = rule_word(rule);
             Ok(Some(format!(in alloc; "line {n}: {word}")?))
+        }
+        Note::BadLog { thread, place } => {
+            let thread = thread.0;
+            Ok(Some(format!(in alloc; "bad log {thread} at {place}")?))
         }
         Note::Nothing => status_line(alloc, exit.status),
     }

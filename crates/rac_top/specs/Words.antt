@@ -1,10 +1,19 @@
--- The words of the command line.
-use Rattle.std.specs.Prelude.{ℕ, List, [], ◌∷◌, Bool, true, false, ◌&&◌, Option, Some, None, codes, if◌then◌else◌}
-use Rattle.std.specs.Str.{bytes_eq}
+-- What the words of the command line ask for, by the order that they give.
+use Rattle.std.specs.Prelude.{Bool, true, false, Option, Some}
+use Rattle.cli_words.specs.declared.order.Order.{Order}
+use Rattle.cli_words.specs.declared.order.Order.TheVariants.{Run, Audit}
 
--- `run` runs a script, and `run --journal` tells its journal too; other words are none that the program knows
-abbrev pub journal_asked : List (List ℕ) → Option Bool
-journal_asked (command ∷ []) = if bytes_eq command (codes "run") then Some false else None
-journal_asked (command ∷ flag ∷ []) =
-    if bytes_eq command (codes "run") && bytes_eq flag (codes "--journal") then Some true else None
-journal_asked words = None
+-- a run of a script
+abbrev pub asks_run : Option Order → Bool
+asks_run (Some (Run journal folder)) = true
+asks_run _ = false
+
+-- a run that tells its journal too
+abbrev pub asks_journal : Option Order → Bool
+asks_journal (Some (Run journal folder)) = journal
+asks_journal _ = false
+
+-- an audit of a disk
+abbrev pub asks_audit : Option Order → Bool
+asks_audit (Some (Audit folder)) = true
+asks_audit _ = false

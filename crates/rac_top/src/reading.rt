@@ -1,4 +1,5 @@
-ghost use Rattle.std.specs.Prelude.{◌≡◌, ℕ, Ok, Err, IfOk, IfSome, IsErrOf, ◌≢◌};
+ghost use Rattle.std.specs.Prelude.{◌≡◌, ℕ, Ok, Err, IfOk, IfSome, IsOk, IsErrOf, ◌≢◌};
+ghost use Rattle.std.specs.Io.KnownBytes.{IsAtEnd};
 ghost use Rattle.rac_io.specs.Counts.{Counts};
 ghost use Rattle.script_text.specs.Reading.{reading};
 ghost use Rattle.script_text.specs.WellFormed.{IsWellFormed};
@@ -42,6 +43,7 @@ fn read_text(alloc: Global, text: &[u8]) -> Result<Script, Unread>
 pub fn read<S: Source>(alloc: Global, source: &mut S) -> Result<Script, Unread>
     ensures says { IfSome (S.left source.old) (λ text. Says result (reading text)) }
     ensures well_formed { IfOk result IsWellFormed }
+    ensures ended { IsOk result → IsAtEnd (S.left source.new) }
     ensures faults { Counts (IsErrOf result Unread.Fault) (S.faults source.old) (S.faults source.new) }
 {
     let text = match read_limited(alloc, source, MOST_BYTES) {

@@ -69,7 +69,7 @@ fn call(rt: &HostRuntime, case: &Case) -> Result<(Exit, MemSink, MemDisk), Fail>
     Ok((exit, sink, disk))
 }
 
-const CASES: [Case<'static>; 25] = [
+const CASES: [Case<'static>; 23] = [
     RUN,
     Case {
         script: "go\ngo\n",
@@ -157,26 +157,20 @@ const CASES: [Case<'static>; 25] = [
         ..RUN
     },
     Case {
-        words: &["walk"],
+        words: &["audit"],
         status: 2,
         note: Note::Usage,
         ..RUN
     },
     Case {
-        script: FIRST,
-        read_fails: &[1],
-        status: 4,
+        words: &["audit", "--disk"],
+        status: 2,
+        note: Note::Usage,
         ..RUN
     },
     Case {
+        words: &["run", "--disk", "d"],
         script: FIRST,
-        read_fails: &[2],
-        status: 4,
-        ..RUN
-    },
-    Case {
-        script: FIRST,
-        read_fails: &[3],
         written: "3: changed\n4: committed\n5: rows 3=42\n",
         ..RUN
     },
@@ -185,12 +179,6 @@ const CASES: [Case<'static>; 25] = [
         room: 4,
         status: 5,
         written: "3: c",
-        ..RUN
-    },
-    Case {
-        script: FIRST,
-        write_fails: &[1],
-        status: 5,
         ..RUN
     },
     Case {
@@ -237,6 +225,43 @@ fn ends_as_it_should(rt: HostRuntime) -> Result<(), Fail> {
         assert_eq!(rt; exit.status, case.status, "case {number}");
         assert_eq!(rt; exit.note, case.note, "case {number}");
         assert_eq!(rt; sink.bytes(), case.written.as_bytes(), "case {number}");
+    }
+    Ok(())
+}
+
+/// The first script reads twice, its bytes and their end, and writes once.
+#[test]
+fn a_failed_call_is_told(rt: HostRuntime) -> Result<(), Fail> {
+    for number in 1..=5 {
+        let fails = [number];
+        let (exit, sink, _) = call(
+            &rt,
+            &Case {
+                script: FIRST,
+                read_fails: &fails,
+                ..RUN
+            },
+        )?;
+        assert_eq!(rt;
+            exit.status,
+            if number <= 2 { 4 } else { 0 },
+            "read {number}"
+        );
+        assert_eq!(rt; sink.bytes().is_empty(), number <= 2, "read {number}");
+        let (exit, sink, _) = call(
+            &rt,
+            &Case {
+                script: FIRST,
+                write_fails: &fails,
+                ..RUN
+            },
+        )?;
+        assert_eq!(rt;
+            exit.status,
+            if number == 1 { 5 } else { 0 },
+            "write {number}"
+        );
+        assert_eq!(rt; sink.bytes().is_empty(), number == 1, "write {number}");
     }
     Ok(())
 }
@@ -327,5 +352,114 @@ fn the_log_tells_the_history_wherever_it_was_cut(rt: HostRuntime) -> Result<(), 
         };
         assert_eq!(rt; torn.first().map(|place| place.1), end, "keep {keep}");
     }
+    Ok(())
+}
+
+/// An audit: the bytes of the first log, the calls of the disk that fail and the room of the sink; and how it ends,
+/// with what is written.
+#[derive(Clone, Copy)]
+struct Audit<'a> {
+    log: &'a [u8],
+    disk_fails: &'a [Planned],
+    room: usize,
+    status: u8,
+    note: Note,
+    written: &'a str,
+}
+
+const AUDIT: Audit<'static> = Audit {
+    log: &[],
+    disk_fails: &[],
+    room: 1000,
+    status: 0,
+    note: Note::Nothing,
+    written: "",
+};
+
+const AUDITS: [Audit<'static>; 5] = [
+    AUDIT,
+    Audit {
+        log: &[5],
+        written: "torn 0 0\n",
+        ..AUDIT
+    },
+    Audit {
+        log: &[0, 5, 9],
+        status: 9,
+        note: Note::BadLog {
+            thread: InstNo(0),
+            place: 0,
+        },
+        ..AUDIT
+    },
+    Audit {
+        log: &[5],
+        room: 4,
+        status: 5,
+        written: "torn",
+        ..AUDIT
+    },
+    Audit {
+        log: &[5],
+        disk_fails: &[Planned {
+            what: CallKind::ReadLog,
+            nth: 8,
+            keep: 0,
+        }],
+        status: 6,
+        ..AUDIT
+    },
+];
+
+/// Audits a disk.
+fn audit(rt: &HostRuntime, disk: &mut MemDisk, room: usize) -> Result<(Exit, MemSink), Fail> {
+    let alloc = rt.alloc();
+    let mut words = Vec::new(alloc);
+    for word in ["audit", "--disk", "d"] {
+        words.push(String::from_str(alloc, word)?)?;
+    }
+    let mut source = MemSource::new(Vec::new(alloc), Vec::new(alloc));
+    let mut sink = MemSink::new(alloc, room, Vec::new(alloc))?;
+    let exit = rac(alloc, words.as_slice(), &mut source, &mut sink, disk);
+    Ok((exit, sink))
+}
+
+#[test]
+fn tells_what_the_logs_have(rt: HostRuntime) -> Result<(), Fail> {
+    let alloc = rt.alloc();
+    for (number, case) in AUDITS.iter().enumerate() {
+        let mut disk = MemDisk::new(alloc, 200, 1000, case.disk_fails.to_vec(alloc)?)?;
+        disk.append(InstNo(0), case.log)?;
+        let (exit, sink) = audit(&rt, &mut disk, case.room)?;
+        assert_eq!(rt; exit.status, case.status, "audit {number}");
+        assert_eq!(rt; exit.note, case.note, "audit {number}");
+        assert_eq!(rt; sink.bytes(), case.written.as_bytes(), "audit {number}");
+    }
+    Ok(())
+}
+
+#[test]
+fn tells_what_a_run_left(rt: HostRuntime) -> Result<(), Fail> {
+    let (_, _, mut disk) = call(
+        &rt,
+        &Case {
+            script: FIRST,
+            ..RUN
+        },
+    )?;
+    let (exit, sink) = audit(&rt, &mut disk, 1000)?;
+    assert_eq!(rt; exit.status, 0);
+    assert_eq!(rt; sink.bytes(), "commit 2 0 0.0.1 3=42\n".as_bytes());
+    let (_, _, mut disk) = call(
+        &rt,
+        &Case {
+            script: SECOND,
+            disk_fails: &[PART_OF_AN_APPEND],
+            ..RUN
+        },
+    )?;
+    let (exit, sink) = audit(&rt, &mut disk, 1000)?;
+    assert_eq!(rt; exit.status, 0);
+    assert_eq!(rt; sink.bytes(), "torn 0 0\n".as_bytes());
     Ok(())
 }
