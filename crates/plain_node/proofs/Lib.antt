@@ -13,5 +13,6 @@ pub mod LogSteps
 pub mod EngineLemmas
 pub mod EndLemmas
 pub mod KeptLemmas
+pub mod RedoSizeLemmas
 pub mod RunLemmas
 pub mod AnswerLemmas

@@ -8,4 +8,5 @@ pub mod Logged
 pub mod Ends
 pub mod Lost
 pub mod Engine
+pub mod RedoSize
 pub mod Ran

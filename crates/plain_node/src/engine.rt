@@ -1,10 +1,11 @@
 ghost use Rattle.std.specs.Prelude.{◌≡◌, ◌≢◌, ℕ, ◌+◌, ◌*◌, ◌^◌, ◌<◌, ◌≤◌, ◌⊎◌, [], ◌∷◌, ◌++◌, ◌-◌, length, Option, None, IfOk, IfSome, IsErr, IsErrOf, IsSome, IsSomeAnd, OnErr, OnOk};
 ghost use Rattle.rac_io.specs.Counts.{Rose};
-ghost use Rattle.rac_disk.specs.Calls.{WhereTold};
+ghost use Rattle.rac_disk.specs.Calls.{HasRoom, WhereTold};
 ghost use Rattle.redo_record.specs.Redo.{IsRedo, IsXid, length_of, redo_bytes};
 ghost use Rattle.redo_thread.specs.Thread.{ThreadState, appended, end_of, forced};
 ghost use Rattle.row_model.specs.Good.{Range};
 ghost use Rattle.plain_node.specs.Engine.{Ends, EndsCut, IsCutEnd, EntersIfWhole, FailedOnce, IsCalm, IsCutCommit, IsKept, IsOneFault, LogsTell, MadeRoom, MaySave};
+ghost use Rattle.plain_node.specs.RedoSize.{IsMeasured, redo_size};
 ghost use Rattle.plain_node.specs.Runs.{Fits, IsProper, IsSound};
 ghost use Rattle.plain_node.specs.Steps.{opened, started, got, Puts, committed};
 ghost use Rattle.plain_node.specs.Lost.{entered};
@@ -71,6 +72,7 @@ impl Engine {
         ensures calm { OnOk result (IsCalm (D.faults disk.old) (D.faults disk.new) (D.full disk.old) (D.full disk.new)) }
         ensures saved { OnErr result (MaySave (D.state disk.old) (D.state disk.new) self.old.thread) }
         ensures cause { OnErr result (FailedOnce (D.faults disk.old) (D.faults disk.new) (D.full disk.old) (D.full disk.new)) }
+        ensures full { HasRoom (D.state disk.old) self.old.thread.number (length self.old.thread.waiting) → D.full disk.new ≡ D.full disk.old }
     {
         if BUFFER - self.thread.waiting().len() < LARGEST {
             self.thread.force(disk)?;
@@ -130,6 +132,9 @@ impl Engine {
         ensures tells { IsErrOf result Stop.Fault → (asked : ℕ → Option Range) → IsSound asked self.old.node → IsProper self.old.node →
             IsKept (D.state disk.old) self.old → IsSomeAnd (D.state disk.new) (λ it. LogsTell it self.new.node.journal) }
         ensures cause { IsErrOf result Stop.Fault → FailedOnce (D.faults disk.old) (D.faults disk.new) (D.full disk.old) (D.full disk.new) }
+        ensures measured { OnOk result ((room : ℕ) → IsMeasured room (D.state disk.old) self.old → IsMeasured room (D.state disk.new) self.new) }
+        ensures full { IsErrOf result Stop.Fault → (room : ℕ) → IsMeasured room (D.state disk.old) self.old → redo_size self.new.node.journal ≤ room →
+            D.full disk.new ≡ D.full disk.old }
     {
         let s = self.node.start(stmt, session)?;
         if let Err(Failed) = self.make_room(disk) {
@@ -165,6 +170,9 @@ impl Engine {
             IsKept (D.state disk.old) self.old → IsOneFault (D.faults disk.old) (D.faults disk.new) (D.full disk.old) (D.full disk.new) →
             IsSomeAnd (D.state disk.new) (λ it. LogsTell it self.new.node.journal) }
         ensures cause { IsErrOf result Stop.Fault → Rose (D.faults disk.old) (D.faults disk.new) ⊎ Rose (D.full disk.old) (D.full disk.new) }
+        ensures measured { OnOk result ((room : ℕ) → IsMeasured room (D.state disk.old) self.old → IsMeasured room (D.state disk.new) self.new) }
+        ensures full { IsErrOf result Stop.Fault → (room : ℕ) → IsMeasured room (D.state disk.old) self.old → redo_size self.new.node.journal ≤ room →
+            D.full disk.new ≡ D.full disk.old }
     {
         let _s = self.node.start(stmt, session)?;
         match self.node.own {
@@ -191,6 +199,8 @@ impl Engine {
         ensures cut { IsErrOf result Stop.Fault → IsSome (D.state disk.old) → EndsCut (D.state disk.old) self.old stmt xid (D.state disk.new) self.new
             (IsOneFault (D.faults disk.old) (D.faults disk.new) (D.full disk.old) (D.full disk.new)) }
         ensures cause { IsErrOf result Stop.Fault → Rose (D.faults disk.old) (D.faults disk.new) ⊎ Rose (D.full disk.old) (D.full disk.new) }
+        ensures full { IsErrOf result Stop.Fault → (room : ℕ) → IsMeasured room (D.state disk.old) self.old → redo_size self.new.node.journal ≤ room →
+            D.full disk.new ≡ D.full disk.old }
     {
         if let Err(Failed) = self.make_room(disk) {
             return Err(Stop::Fault);

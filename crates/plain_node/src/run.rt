@@ -1,4 +1,5 @@
-ghost use Rattle.std.specs.Prelude.{◌≡◌, ◌≢◌, ◌<◌, ◌≤◌, ◌⊎◌, ℕ, List, [], ◌∷◌, ◌++◌, Option, None, true, false, IfOk, IsErrOf, IsSomeAnd, OnOk, length};
+ghost use Rattle.std.specs.Prelude.{◌≡◌, ◌≢◌, ◌<◌, ◌≤◌, ◌⊎◌, ℕ, List, [], ◌∷◌, ◌++◌, Option, None, true, false, IfOk, IfSome, IsErrOf, IsSomeAnd, OnOk, length};
+ghost use Rattle.rac_disk.specs.Disk.{room_at};
 ghost use Rattle.rac_io.specs.Counts.{Rose};
 ghost use Rattle.row_model.specs.Good.{Range};
 ghost use Rattle.script_text.specs.declared.item.Item.{Item};
@@ -9,7 +10,8 @@ ghost use Rattle.script_text.specs.Asked.{range_asked, asked};
 ghost use Rattle.plain_node.specs.Lined.{IsLined, IsNext, AreNext, IsRight, NamesBelow, last_line};
 ghost use Rattle.plain_node.specs.Engine.{CanGo, IsCalm, IsCutLine, IsKept, IsOneFault, LogsTell};
 ghost use Rattle.plain_node.specs.Lost.{IsLostSoFar};
-ghost use Rattle.plain_node.specs.Ran.{IsRan, Tells};
+ghost use Rattle.plain_node.specs.Ran.{HasEmptyLogs, IsRan, Tells};
+ghost use Rattle.plain_node.specs.RedoSize.{IsMeasured, redo_size};
 ghost use Rattle.plain_node.specs.Runs.{CanRun, IsSound, IsProper, IsNamed};
 
 use crate::engine::{Engine, Stop};
@@ -52,6 +54,9 @@ fn try_answer<D: SharedDisk>(
         IsKept (D.state disk.old) engine.old → IsOneFault (D.faults disk.old) (D.faults disk.new) (D.full disk.old) (D.full disk.new) →
         IsSomeAnd (D.state disk.new) (λ it. LogsTell it engine.new.node.journal) }
     ensures cause { IsErrOf result Stop.Fault → Rose (D.faults disk.old) (D.faults disk.new) ⊎ Rose (D.full disk.old) (D.full disk.new) }
+    ensures measured { OnOk result ((room : ℕ) → IsMeasured room (D.state disk.old) engine.old → IsMeasured room (D.state disk.new) engine.new) }
+    ensures full { IsErrOf result Stop.Fault → (room : ℕ) → IsMeasured room (D.state disk.old) engine.old → redo_size engine.new.node.journal ≤ room →
+        D.full disk.new ≡ D.full disk.old }
 {
     match item {
         Item::Session { session, inst } => engine.open(*session, *inst),
@@ -87,6 +92,9 @@ fn answer<D: SharedDisk>(
         IsKept (D.state disk.old) engine.old → IsOneFault (D.faults disk.old) (D.faults disk.new) (D.full disk.old) (D.full disk.new) →
         IsSomeAnd (D.state disk.new) (λ it. LogsTell it engine.new.node.journal) }
     ensures cause { IsErrOf result Stop.Fault → Rose (D.faults disk.old) (D.faults disk.new) ⊎ Rose (D.full disk.old) (D.full disk.new) }
+    ensures measured { OnOk result ((room : ℕ) → IsMeasured room (D.state disk.old) engine.old → IsMeasured room (D.state disk.new) engine.new) }
+    ensures full { IsErrOf result Stop.Fault → (room : ℕ) → IsMeasured room (D.state disk.old) engine.old → redo_size engine.new.node.journal ≤ room →
+        D.full disk.new ≡ D.full disk.old }
     ensures ended { IsErrOf result Stop.Fault → 1 ≤ length engine.new.node.journal }
 {
     match try_answer(engine, alloc, disk, line, item) {
@@ -117,6 +125,9 @@ fn run_wave<D: SharedDisk>(
         × (IsKept (D.state disk.old) engine.old → IsOneFault (D.faults disk.old) (D.faults disk.new) (D.full disk.old) (D.full disk.new) →
         IsSomeAnd (D.state disk.new) (λ it. LogsTell it engine.new.node.journal)) }
     ensures cause { IsErrOf result Stop.Fault → Rose (D.faults disk.old) (D.faults disk.new) ⊎ Rose (D.full disk.old) (D.full disk.new) }
+    ensures measured { OnOk result ((room : ℕ) → IsMeasured room (D.state disk.old) engine.old → IsMeasured room (D.state disk.new) engine.new) }
+    ensures full { IsErrOf result Stop.Fault → (room : ℕ) → IsMeasured room (D.state disk.old) engine.old → redo_size engine.new.node.journal ≤ room →
+        D.full disk.new ≡ D.full disk.old }
     ensures ended { IsErrOf result Stop.Fault → 1 ≤ length engine.new.node.journal }
 {
     for line in wave.as_slice() {
@@ -142,6 +153,8 @@ fn run_waves<D: SharedDisk>(
         × (IsKept (D.state disk.old) engine.old → IsOneFault (D.faults disk.old) (D.faults disk.new) (D.full disk.old) (D.full disk.new) →
         IsSomeAnd (D.state disk.new) (λ it. LogsTell it engine.new.node.journal)) }
     ensures cause { IsErrOf result Stop.Fault → Rose (D.faults disk.old) (D.faults disk.new) ⊎ Rose (D.full disk.old) (D.full disk.new) }
+    ensures full { IsErrOf result Stop.Fault → (room : ℕ) → IsMeasured room (D.state disk.old) engine.old → redo_size engine.new.node.journal ≤ room →
+        D.full disk.new ≡ D.full disk.old }
     ensures ended { IsErrOf result Stop.Fault → 1 ≤ length engine.new.node.journal }
 {
     for wave in waves.as_slice() {
@@ -163,6 +176,8 @@ pub fn run_script<D: SharedDisk>(
     ensures ran { IfOk result (IsRan script.now (D.faults disk.old) (D.faults disk.new) (D.full disk.old) (D.full disk.new)) }
     ensures tells { IfOk result (λ ran. Tells (D.state disk.old) (D.state disk.new)
         (IsOneFault (D.faults disk.old) (D.faults disk.new) (D.full disk.old) (D.full disk.new)) ran.journal) }
+    ensures full { IfOk result (λ ran. IfSome (D.state disk.old) (λ it.
+        HasEmptyLogs it → redo_size ran.journal ≤ room_at it 0 → D.full disk.new ≡ D.full disk.old)) }
 {
     let mut engine = Engine::new(alloc)?;
     match run_waves(&mut engine, alloc, disk, script.waves()) {

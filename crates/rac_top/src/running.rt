@@ -1,8 +1,10 @@
-ghost use Rattle.std.specs.Prelude.{◌≡◌, ◌≢◌, [], true, IfOk};
+ghost use Rattle.std.specs.Prelude.{◌≡◌, ◌≢◌, ◌≤◌, [], true, IfOk, IfSome};
 ghost use Rattle.script_text.specs.WellFormed.{IsWellFormed};
 ghost use Rattle.run_report.specs.Reports.{report_text};
 ghost use Rattle.plain_node.specs.Engine.{IsOneFault};
-ghost use Rattle.plain_node.specs.Ran.{IsRan, Tells};
+ghost use Rattle.rac_disk.specs.Disk.{room_at};
+ghost use Rattle.plain_node.specs.Ran.{HasEmptyLogs, IsRan, Tells};
+ghost use Rattle.plain_node.specs.RedoSize.{redo_size};
 ghost use Rattle.rac_top.specs.Exits.{EndsByFaults};
 
 use plain_node::{Ran, run_script};
@@ -32,6 +34,8 @@ pub fn run_and_report<D: SharedDisk>(
     ensures ends { IfOk result (λ run. EndsByFaults run.ran.journal (D.faults disk.old) (D.faults disk.new) (D.full disk.old) (D.full disk.new)) }
     ensures tells { IfOk result (λ run. Tells (D.state disk.old) (D.state disk.new)
         (IsOneFault (D.faults disk.old) (D.faults disk.new) (D.full disk.old) (D.full disk.new)) run.ran.journal) }
+    ensures full { IfOk result (λ run. IfSome (D.state disk.old) (λ it.
+        HasEmptyLogs it → redo_size run.ran.journal ≤ room_at it 0 → D.full disk.new ≡ D.full disk.old)) }
     ensures report { IfOk result (λ run. run.report.items ≡ report_text script.now run.ran.journal with_journal) }
 {
     let ran = run_script(alloc, script, disk)?;

@@ -1,4 +1,4 @@
-ghost use Rattle.std.specs.Prelude.{◌≡◌, ℕ, [], ◌⊎◌, map, reverse, string_bytes, length, None, Some, Ok, Err, IfSome, IsSome, IsSomeAnd, true, ◌≢◌, ◌↔◌};
+ghost use Rattle.std.specs.Prelude.{◌≡◌, ◌≤◌, ℕ, [], ◌⊎◌, map, reverse, string_bytes, length, None, Some, Ok, Err, IfSome, IsSome, IsSomeAnd, true, ◌≢◌, ◌↔◌};
 ghost use Rattle.std.specs.Io.KnownBytes.{Appends, IsAtEnd};
 ghost use Rattle.rac_io.specs.Counts.{Counts, Rose};
 ghost use Rattle.row_model.specs.Good.{GoodRows, GoodFound, GoodCommits, GoodAcknowledgements, GoodStarts, GoodRowLocks, GoodReplay};
@@ -10,7 +10,9 @@ ghost use Rattle.cli_words.specs.Orders.{order_in};
 ghost use Rattle.rac_top.specs.Words.{asks_run, asks_journal, asks_audit};
 ghost use Rattle.rac_top.specs.Runs.{Says};
 ghost use Rattle.rac_io.specs.Write.{AppendsPart};
+ghost use Rattle.rac_disk.specs.Disk.{room_at};
 ghost use Rattle.plain_node.specs.Ends.{causes_in};
+ghost use Rattle.plain_node.specs.RedoSize.{redo_size};
 ghost use Rattle.plain_node.specs.Engine.{IsCalm, IsOneFault, LogsTell};
 ghost use Rattle.rac_top.specs.Creation.{MayBeCut};
 ghost use Rattle.rac_top.specs.Exits.{Audits, AuditsPart, EndsByFaults, HasGoodLogs, HasRun, IsReported, IsScript, NamesBadLog, NoteFits, Reports, ReportsPart, SaysNo, Stayed, exit_of, exit_unread, is_before_disk, is_done, is_silent, is_unread, may_end};
@@ -89,6 +91,8 @@ pub fn rac<S: Source, K: Sink, D: SharedDisk>(
     ensures unrefused { result.status ≡ 0 → causes_in (reverse result.journal) ≡ [] }
     ensures disk_calm { (result.status ≡ 0) ⊎ (result.status ≡ 9) →
         IsCalm (D.faults disk.old) (D.faults disk.new) (D.full disk.old) (D.full disk.new) }
+    ensures full { result.status ≢ 7 → IfSome (D.state disk.old) (λ it.
+        redo_size result.journal ≤ room_at it 0 → D.full disk.new ≡ D.full disk.old) }
     ensures bad_log { result.status ≡ 9 → IfSome (D.state disk.old) (NamesBadLog result.note) }
 
     // Where nothing goes wrong, all is done: nothing is refused but for want of memory.

@@ -9,6 +9,7 @@ use Rattle.plain_node.specs.Lined.{last_line}
 use Rattle.plain_node.specs.Lost.{IsLostSoFar}
 use Rattle.plain_node.proofs.AnswerLemmas.{lost-line, tells-lost}
 use Rattle.plain_node.proofs.LineLemmas.{last_line-push}
+use Rattle.plain_node.proofs.RedoSizeLemmas.{redo_size-lost}
 use Rattle.plain_node.proofs.run.answer.Goals as goal
 
 pub returns-in-Ok-clause-right : goal.returns-in-Ok-clause-right
@@ -32,3 +33,8 @@ pub returns-in_ok-lose-in-Err-Fault-clause-tells : goal.returns-in_ok-lose-in-Er
 returns-in_ok-lose-in-Err-Fault-clause-tells g c = λ fault parts done right kept one.
     subst (λ (it : Node). IsSomeAnd (g.D.SharedDisk.state c.try_answer.new.disk) (λ (disk : DiskState). LogsTell disk it.journal)) (sym c.in_ok-lose-in-Err-Fault.ensures)
     (tells-lost (g.D.SharedDisk.state c.try_answer.new.disk) c.try_answer.new.engine.node c.args.line (c.in-Err-Fault.ensures.tells (rw c.in-Err-Fault.field-0-is fault) (asked parts) right.sound right.proper kept one))
+
+pub returns-in_ok-lose-in-Err-Fault-clause-full : goal.returns-in_ok-lose-in-Err-Fault-clause-full
+returns-in_ok-lose-in-Err-Fault-clause-full g c = λ fault room has few.
+    c.in-Err-Fault.ensures.full (rw c.in-Err-Fault.field-0-is fault) room has
+    (rw (c.in_ok-lose-in-Err-Fault.ensures, redo_size-lost c.try_answer.new.engine.node c.args.line) at few)

@@ -1,13 +1,17 @@
 -- The engine is right at the start, and so at the end or where a fault ended it.
-use Rattle.std.proofs.Common.{◌≡◌, ◌∙◌, [], refl, sym, ap, arith, None}
+use Rattle.std.proofs.Common.{◌≡◌, ◌∙◌, ◌≤◌, [], refl, sym, ap, arith, None}
+use Rattle.rac_disk.specs.Disk.{DiskState, room_at}
 use Rattle.redo_thread.specs.Thread.{ThreadState}
 use Rattle.std.specs.Prelude.{IsErrOf}
 use Rattle.script_text.specs.Reading.{items_of, joined}
 use Rattle.plain_node.specs.declared.engine.Stop.TheVariants.{Fault}
 use Rattle.plain_node.specs.Lined.{AreNext}
+use Rattle.plain_node.specs.Ran.{HasEmptyLogs}
+use Rattle.plain_node.specs.RedoSize.{redo_size}
 use Rattle.script_text.specs.Asked.{asked}
 use Rattle.plain_node.proofs.EngineLemmas.{kept-new, kept-tells}
 use Rattle.plain_node.proofs.LineLemmas.{plain-script, all-next}
+use Rattle.plain_node.proofs.RedoSizeLemmas.{if-some, measured-new}
 use Rattle.plain_node.proofs.RunLemmas.{right-good, right-new}
 use Rattle.plain_node.proofs.run.run_script.Goals as goal
 
@@ -70,3 +74,20 @@ returns-in-Err-Fault-clause-tells g c = λ empty one.
     let lost = c.run_waves.ensures.lost fault parts next (right-new parts c.in_ok-engine.engine.node new.journal (new.sound (asked parts)) new.proper) in
     let own : c.in_ok-engine.engine.node.own ≡ None = sym (new.sound (asked parts)).own_is ∙ rw new.journal refl in
     lost.1 (kept-new (g.D.SharedDisk.state c.args.disk.now) c.in_ok-engine.engine new.thread new.journal own empty) one
+
+pub returns-in-Ok-clause-full : goal.returns-in-Ok-clause-full
+returns-in-Ok-clause-full g c =
+    let full = g.D.SharedDisk.full in
+    if-some (g.D.SharedDisk.state c.args.disk.now)
+    (λ (it : DiskState). HasEmptyLogs it → redo_size c.run_waves.new.engine.node.journal ≤ room_at it 0 → full c.run_waves.new.disk ≡ full c.args.disk.now)
+    (λ it is empty few. c.in-Ok.ensures.calm.1)
+
+pub returns-in-Err-Fault-clause-full : goal.returns-in-Err-Fault-clause-full
+returns-in-Err-Fault-clause-full g c =
+    let new = c.in_ok-engine.ensures in
+    let full = g.D.SharedDisk.full in
+    let fault : IsErrOf c.run_waves.result Fault = rw (c.in-Err-Fault.is, c.in-Err-Fault.field-0-is) refl in
+    if-some (g.D.SharedDisk.state c.args.disk.now)
+    (λ (it : DiskState). HasEmptyLogs it → redo_size c.run_waves.new.engine.node.journal ≤ room_at it 0 → full c.run_waves.new.disk ≡ full c.args.disk.now)
+    (λ it is empty few.
+    c.run_waves.ensures.full fault (room_at it 0) (rw is (measured-new it c.in_ok-engine.engine new.thread new.journal empty)) few)

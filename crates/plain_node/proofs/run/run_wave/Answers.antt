@@ -32,6 +32,7 @@ loop-line-preserved g c =
             c.in_ok-answer.ensures.right parts done after.0 so_far.3,
             λ kept. c.in_ok-answer.ensures.kept parts done so_far.3 (so_far.4 kept),
           );
+      measured = λ room has. c.in_ok-answer.ensures.measured room (c.loop-line.invariant.measured room has);
       calm = (c.in_ok-answer.ensures.calm.0 ∙ c.loop-line.invariant.calm.0, c.in_ok-answer.ensures.calm.1 ∙ c.loop-line.invariant.calm.1);
     }
 

@@ -3,6 +3,7 @@ use Rattle.script_text.specs.declared.item.Item.{Item}
 use Rattle.script_text.specs.ScriptParts.{ScriptParts}
 use Rattle.plain_node.specs.Engine.{CanGo, IsCalm, IsKept}
 use Rattle.plain_node.specs.Lined.{AreNext, IsRight}
+use Rattle.plain_node.specs.RedoSize.{IsMeasured}
 use Rattle.plain_node.proofs.run.run_wave.Given as goal
 
 -- what is left can be run and comes next, and the engine is right for what was run
@@ -16,5 +17,6 @@ invariant-loop-line g l =
       went : (parts : ScriptParts) (before : List (ℕ × Item)) → AreNext parts before l.wave → IsRight parts before l.fn.engine.node →
           (done : List (ℕ × Item)) × (done ++ drop l.line-index l.wave ≡ before ++ l.wave) × AreNext parts done (drop l.line-index l.wave) × IsRight parts done l.engine.node
           × (IsKept (state l.fn.disk) l.fn.engine → IsKept (state l.disk) l.engine);
+      measured : (room : ℕ) → IsMeasured room (state l.fn.disk) l.fn.engine → IsMeasured room (state l.disk) l.engine;
       calm : IsCalm (faults l.fn.disk) (faults l.disk) (full l.fn.disk) (full l.disk);
     }

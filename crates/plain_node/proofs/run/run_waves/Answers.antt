@@ -31,6 +31,7 @@ loop-wave-preserved g c =
             wave.0,
             λ kept. wave.1 (so_far.4 kept),
           );
+      measured = λ room has. c.in_default.ensures.measured room (c.loop-wave.invariant.measured room has);
       calm = (c.in_default.ensures.calm.0 ∙ c.loop-wave.invariant.calm.0, c.in_default.ensures.calm.1 ∙ c.loop-wave.invariant.calm.1);
     }
 
@@ -51,3 +52,7 @@ returns-in-Err-clause-lost g c = λ fault parts next r.
     let calm = c.loop-wave.invariant.calm in
     let lost = c.in-Err.ensures.lost fault parts so_far.0 split.0 so_far.3 in
     (lost.0, λ kept one. lost.1 (so_far.4 kept) (rw (calm.0, calm.1) one))
+
+pub returns-in-Err-clause-full : goal.returns-in-Err-clause-full
+returns-in-Err-clause-full g c = λ fault room has few.
+    c.in-Err.ensures.full fault room (c.loop-wave.invariant.measured room has) few ∙ c.loop-wave.invariant.calm.1

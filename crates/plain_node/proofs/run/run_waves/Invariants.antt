@@ -4,6 +4,7 @@ use Rattle.script_text.specs.ScriptParts.{ScriptParts}
 use Rattle.script_text.specs.Reading.{joined}
 use Rattle.plain_node.specs.Engine.{CanGo, IsCalm, IsKept}
 use Rattle.plain_node.specs.Lined.{AreNext, IsRight}
+use Rattle.plain_node.specs.RedoSize.{IsMeasured}
 use Rattle.plain_node.proofs.run.run_waves.Given as goal
 
 -- what is left can be run and comes next, and the engine is right for what was run
@@ -17,5 +18,6 @@ invariant-loop-wave g l =
       went : (parts : ScriptParts) → AreNext parts [] (joined l.waves) → IsRight parts [] l.fn.engine.node →
           (done : List (ℕ × Item)) × (done ++ joined (drop l.wave-index l.waves) ≡ joined l.waves) × AreNext parts done (joined (drop l.wave-index l.waves)) × IsRight parts done l.engine.node
           × (IsKept (state l.fn.disk) l.fn.engine → IsKept (state l.disk) l.engine);
+      measured : (room : ℕ) → IsMeasured room (state l.fn.disk) l.fn.engine → IsMeasured room (state l.disk) l.engine;
       calm : IsCalm (faults l.fn.disk) (faults l.disk) (full l.fn.disk) (full l.disk);
     }

@@ -5,6 +5,7 @@ use Rattle.plain_node.specs.Engine.{Ends, EndsCut, IsOneFault}
 use Rattle.plain_node.specs.Steps.{started}
 use Rattle.plain_node.proofs.EndLemmas.{some-and}
 use Rattle.plain_node.proofs.KeptLemmas.{commit-kept, commit-tells}
+use Rattle.plain_node.proofs.RedoSizeLemmas.{commit-measured, measured-started}
 use Rattle.plain_node.proofs.engine.Engine.commit.Goals as goal
 
 pub returns-in-Some-clause-kept : goal.returns-in-Some-clause-kept
@@ -29,3 +30,14 @@ returns-in-Some-clause-tells g c = λ fault asked sound proper kept one.
     commit-tells asked old c.end.new.self c.args.stmt c.in-Some.xid (sym (ap (λ (it : Node). it.own) start) ∙ c.in-Some.is) sound proper disk disk_now _
     (subst (λ (it : Node). EndsCut disk (record old { node = it }) c.args.stmt c.in-Some.xid disk_now c.end.new.self
     (IsOneFault (g.D.SharedDisk.faults c.args.disk.now) (g.D.SharedDisk.faults c.end.new.disk) (g.D.SharedDisk.full c.args.disk.now) (g.D.SharedDisk.full c.end.new.disk))) start cut) kept one
+
+pub returns-in-Some-clause-measured : goal.returns-in-Some-clause-measured
+returns-in-Some-clause-measured g c =
+    let old = c.args.self.now in
+    let disk = g.D.SharedDisk.state c.args.disk.now in
+    let disk_now = g.D.SharedDisk.state c.end.new.disk in
+    on_ok_weaker c.end.result
+    (λ ends room has.
+    commit-measured room disk disk_now (record old { node = c.start.new.self }) c.end.new.self c.args.stmt c.in-Some.xid ends
+    (measured-started room disk old c.start.new.self c.args.stmt c.args.session c.in_ok-_s.ensures.started has))
+    c.end.ensures.ended

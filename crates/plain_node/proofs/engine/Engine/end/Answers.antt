@@ -1,8 +1,10 @@
 use Rattle.std.proofs.Common.{◌∙◌, ap, inr, refl}
+use Rattle.rac_nums.specs.declared.redo.Redo.{Redo}
 use Rattle.plain_node.specs.declared.node.Node.{Node}
 use Rattle.plain_node.specs.Lost.{entered, marked}
 use Rattle.plain_node.specs.Steps.{finished}
 use Rattle.plain_node.proofs.EndLemmas.{cut-by, ends-by, enters-under, one-fault-calm, saved-same, some-made, some-told}
+use Rattle.plain_node.proofs.RedoSizeLemmas.{cut-room, unchanged-room}
 use Rattle.plain_node.proofs.engine.Engine.end.Goals as goal
 
 pub returns-in_ok-finish-in-Ok-clause-ended : goal.returns-in_ok-finish-in-Ok-clause-ended
@@ -36,3 +38,19 @@ returns-in_ok-enter_if_whole-in-Err-force-clause-cut g c = λ fault some.
     (g.D.SharedDisk.full c.args.disk.now) (g.D.SharedDisk.full c.force.new.disk)
     (rw (c.in_default.ensures.calm.0, c.in_default.ensures.calm.1) at (force.counts.failed refl)) enter.rose (rw enter.full at one))
     force.err c.append.ensures.node (enter.enters some_saved)))
+
+pub returns-in-Err-clause-full : goal.returns-in-Err-clause-full
+returns-in-Err-clause-full g c = λ fault room has few.
+    c.in-Err.ensures.full
+    (unchanged-room room (g.D.SharedDisk.state c.args.disk.now) c.args.self.now c.make_room.new.self.node c.in-Err.ensures.node has few)
+
+pub returns-in_ok-enter_if_whole-in-Err-force-clause-full : goal.returns-in_ok-enter_if_whole-in-Err-force-clause-full
+returns-in_ok-enter_if_whole-in-Err-force-clause-full g c = λ fault room has few.
+    let marked_is = c.in_ok-c.ensures.marked ∙ ap (λ (node : Node). marked node c.args.stmt c.args.xid) c.make_room.ensures.node in
+    let made = c.commit_record.ensures in
+    let enter = c.in_ok-enter_if_whole-in-Err-force.ensures in
+    let fits =
+    cut-room room (g.D.SharedDisk.state c.args.disk.now) (g.D.SharedDisk.state c.make_room.new.disk) c.args.self.now c.make_room.new.self.thread
+    c.in_default.ensures.made has c.args.stmt c.args.xid c.mark.new.self c.enter_if_whole.new.self.node c.commit_record.result c.append.new.self.thread
+    marked_is (ap (λ (redo : Redo). redo.kind) made.made) made.is_redo c.append.ensures.thread (rw c.append.ensures.node at enter.either) few in
+    enter.full ∙ (c.in-Err-force.ensures.counts.room fits).0 ∙ c.in_default.ensures.calm.1
