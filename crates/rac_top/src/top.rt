@@ -15,7 +15,9 @@ ghost use Rattle.plain_node.specs.Ends.{causes_in};
 ghost use Rattle.plain_node.specs.RedoSize.{redo_size};
 ghost use Rattle.plain_node.specs.Engine.{IsCalm, IsOneFault, LogsTell};
 ghost use Rattle.rac_top.specs.Creation.{MayBeCut};
-ghost use Rattle.rac_top.specs.Exits.{Audits, AuditsPart, EndsByFaults, HasGoodLogs, HasRun, IsReported, IsScript, NamesBadLog, NoteFits, Reports, ReportsPart, SaysNo, Stayed, exit_of, exit_unread, is_before_disk, is_done, is_silent, is_unread, may_end};
+ghost use Rattle.rac_top.specs.Exits.{Audits, AuditsPart, EndsByFaults, HasGoodLogs, HasRun, IsReported, IsScript, NamesBadLog};
+ghost use Rattle.rac_top.specs.Exits.{NoteFits, Reports, ReportsPart, SaysNo, Stayed, exit_of, exit_unread};
+ghost use Rattle.rac_top.specs.Exits.{is_before_disk, is_done, is_silent, is_unread, may_end};
 
 use crate::auditing::audit_disk;
 use crate::creation::cut_logs;
