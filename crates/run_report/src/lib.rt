@@ -12,6 +12,7 @@ mod told;
 mod waves;
 
 pub use counts::summary;
+pub use texts::RowsText;
 pub use told::report;
 
 #[cfg(test)]

@@ -18,9 +18,9 @@ impl fmt::Display for RowText {
     }
 }
 
-/// Prints rows with their values.
+/// Prints rows with their values, with single spaces between, or `none`.
 #[derive(Clone, Copy)]
-pub(crate) struct RowsText<'a>(pub(crate) &'a RowList);
+pub struct RowsText<'a>(pub &'a RowList);
 
 impl fmt::Display for RowsText<'_> {
     ghost output = { λ t. Some (rows_text t.0.now) };
