@@ -1,0 +1,104 @@
+//! Runs the example scripts that lie in its folder, and tells of each whether it gives what stands beside it.
+#![tactic(auto)]
+
+ghost use Rattle.std.specs.Prelude.{◌≡◌, IsTrue, ◌↔◌};
+
+use rac_disk::MemDisk;
+use rac_io::{MemSink, MemSource};
+use rac_nums::NoMemory;
+use rac_top::{Exit, rac};
+use std::alloc::{AllocError, Global};
+use std::process::ExitCode;
+use std::rt::Files;
+use std::{fs, io};
+
+/// The blocks of a disk.
+const BLOCKS: u16 = 200;
+
+/// The room of each of its logs, in bytes.
+const LOG_BYTES: u64 = 65_536;
+
+/// The room for what a call writes, in bytes.
+const SINK_BYTES: usize = 65_536;
+
+/// The examples, by the names of their files.
+const EXAMPLES: [&str; 3] = ["first", "waves", "redo"];
+
+/// Whether a call ended well, with just the wanted bytes.
+fn is_expected(exit: &Exit, sink: &MemSink, want: &[u8]) -> bool
+    ensures { IsTrue result ↔ (exit.now.status ≡ 0) × (sink.now.holds ≡ want.now) }
+{
+    exit.status == 0 && sink.bytes() == want
+}
+
+/// The words of a call.
+fn owned_words(alloc: Global, words: &[&str]) -> Result<Vec<String>, AllocError> {
+    let mut owned = Vec::new(alloc);
+    for word in words {
+        owned.push(String::from_str(alloc, word)?)?;
+    }
+    Ok(owned)
+}
+
+/// Whether a call with these words, over a script and a disk, gives the wanted bytes.
+fn gives(
+    alloc: Global,
+    words: &[&str],
+    script: Vec<u8>,
+    disk: &mut MemDisk,
+    want: &[u8],
+) -> Result<bool, NoMemory> {
+    let words = owned_words(alloc, words)?;
+    let mut source = MemSource::new(script, Vec::new(alloc));
+    let mut sink = MemSink::new(alloc, SINK_BYTES, Vec::new(alloc))?;
+    let exit = rac(alloc, words.as_slice(), &mut source, &mut sink, disk);
+    Ok(is_expected(&exit, &sink, want))
+}
+
+/// Makes a call, compares what it gives with a file, and tells of the outcome.
+fn compare<R: Files + AllocGlobal + Print>(
+    rt: &R,
+    title: &str,
+    words: &[&str],
+    script: Vec<u8>,
+    disk: &mut MemDisk,
+    file: &str,
+) -> io::Result<bool> {
+    let want = fs::read(rt, file)?;
+    let is_same = gives(rt.alloc(), words, script, disk, want.as_slice()).map_err(|_| AllocError)?;
+    let outcome = if is_same { "as expected" } else { "differs" };
+    println!(rt; "{title}: {outcome}")?;
+    Ok(is_same)
+}
+
+/// Runs the script NAME.rac over a disk, and compares its report with NAME.out.
+fn run_example<R: Files + AllocGlobal + Print>(
+    rt: &R,
+    name: &str,
+    disk: &mut MemDisk,
+) -> io::Result<bool> {
+    let script_file = format!(in rt.alloc(); "{name}.rac")?;
+    let report_file = format!(in rt.alloc(); "{name}.out")?;
+    let script = fs::read(rt, script_file.as_str())?;
+    compare(rt, name, &["run"], script, disk, report_file.as_str())
+}
+
+/// A disk for one example.
+fn new_disk(alloc: Global) -> Result<MemDisk, AllocError> {
+    MemDisk::new(alloc, BLOCKS, LOG_BYTES, Vec::new(alloc)).map_err(|_| AllocError)
+}
+
+/// Runs the examples, and tells whether each gives what is expected.
+fn run_examples<R: Files + AllocGlobal + Print>(rt: &R) -> io::Result<bool> {
+    let mut all_same = true;
+    for name in EXAMPLES {
+        let mut disk = new_disk(rt.alloc())?;
+        all_same &= run_example(rt, name, &mut disk)?;
+    }
+    Ok(all_same)
+}
+
+fn main(rt: HostRuntime) -> io::Result<ExitCode> {
+    let all_same = run_examples(&rt)?;
+    Ok(ExitCode::from(u8::from(!all_same)))
+}
