@@ -24,6 +24,9 @@ const SINK_BYTES: usize = 65_536;
 /// The examples, by the names of their files.
 const EXAMPLES: [&str; 3] = ["first", "waves", "redo"];
 
+/// The example whose redo is audited.
+const AUDITED: &str = "redo";
+
 /// Whether a call ended well, with just the wanted bytes.
 fn is_expected(exit: &Exit, sink: &MemSink, want: &[u8]) -> bool
     ensures { IsTrue result ↔ (exit.now.status ≡ 0) × (sink.now.holds ≡ want.now) }
@@ -83,6 +86,25 @@ fn run_example<R: Files + AllocGlobal + Print>(
     compare(rt, name, &["run"], script, disk, report_file.as_str())
 }
 
+/// Audits the disk that a run left, and compares the history that its redo tells with NAME.audit.
+fn audit_example<R: Files + AllocGlobal + Print>(
+    rt: &R,
+    name: &str,
+    disk: &mut MemDisk,
+) -> io::Result<bool> {
+    let title = format!(in rt.alloc(); "{name}, audited")?;
+    let audit_file = format!(in rt.alloc(); "{name}.audit")?;
+    let words = ["audit", "--disk", "d"];
+    compare(
+        rt,
+        title.as_str(),
+        &words,
+        Vec::new(rt.alloc()),
+        disk,
+        audit_file.as_str(),
+    )
+}
+
 /// A disk for one example.
 fn new_disk(alloc: Global) -> Result<MemDisk, AllocError> {
     MemDisk::new(alloc, BLOCKS, LOG_BYTES, Vec::new(alloc)).map_err(|_| AllocError)
@@ -94,6 +116,9 @@ fn run_examples<R: Files + AllocGlobal + Print>(rt: &R) -> io::Result<bool> {
     for name in EXAMPLES {
         let mut disk = new_disk(rt.alloc())?;
         all_same &= run_example(rt, name, &mut disk)?;
+        if name == AUDITED {
+            all_same &= audit_example(rt, name, &mut disk)?;
+        }
     }
     Ok(all_same)
 }

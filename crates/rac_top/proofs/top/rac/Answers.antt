@@ -1,5 +1,5 @@
 -- The exits without a script are told by `exit_unread`, and the others have the statuses 0 and 5.
-use Rattle.std.proofs.Common.{ap, ◌∙◌, ◌≡◌, Some, map, string_bytes, true, Err}
+use Rattle.std.proofs.Common.{ap, refl, ◌∙◌, ◌≡◌, Some, map, string_bytes, true, Err}
 use Rattle.cli_words.specs.declared.order.Order.{Order}
 use Rattle.cli_words.specs.Orders.{order_in}
 use Rattle.rac_top.specs.Words.{asks_journal}
@@ -30,4 +30,4 @@ pub returns-in-Ok-run_and_report-clause-full : goal.returns-in-Ok-run_and_report
 returns-in-Ok-run_and_report-clause-full g c = λ _.
     let same = journal-of c.in-Ok-run_and_report.run'.ran c.write_report.result c.write_report.ensures.exit in
     rw (same, ← c.cut_logs.ensures.full) (fits-before (g.D.SharedDisk.full c.run_and_report.new.disk ≡ g.D.SharedDisk.full c.cut_logs.new.disk)
-    (redo_size c.in-Ok-run_and_report.run'.ran.journal) (g.D.SharedDisk.state c.args.disk.now) (g.D.SharedDisk.state c.cut_logs.new.disk) c.cut_logs.ensures.cut (c.in-Ok-cut_logs.ensures.empty) c.in-Ok-run_and_report.ensures.full)
+    (redo_size c.in-Ok-run_and_report.run'.ran.journal) (g.D.SharedDisk.state c.args.disk.now) (g.D.SharedDisk.state c.cut_logs.new.disk) c.cut_logs.ensures.cut (c.in-Ok-cut_logs.ensures.empty refl) c.in-Ok-run_and_report.ensures.full)
