@@ -14,7 +14,8 @@ abbrev pub ReadSoFar : ℕ → List (List ℕ) → Option DiskState → Option D
 ReadSoFar count bytes old now = IfSome old (λ it. AreRead count bytes it now)
 
 -- the log at a place
-pub log_in : (it : DiskState) (thread : ℕ) → thread < length it.logs → take (thread + 1) (logs_in it) ≡ take thread (logs_in it) ++ log_at it thread ∷ []
+pub log_in : (it : DiskState) (thread : ℕ) → thread < length it.logs
+    → take (thread + 1) (logs_in it) ≡ take thread (logs_in it) ++ log_at it thread ∷ []
 log_in it thread within =
     let as_long = length-map it.logs (λ (log : LogState). log.bytes) in
     let room : thread < length (logs_in it) = omega arith in

@@ -1,4 +1,5 @@
 pub mod LogLemmas
 pub mod OneWay
+pub mod OrderLemmas
 pub mod StandingLemmas
 pub mod ThreadLemmas

@@ -64,6 +64,11 @@ lines_from all thread (records ∷ more) = filter_map (line_of all thread) recor
 abbrev pub is_after : HistoryLine → HistoryLine → Bool
 is_after a b = nat_lt b.c.0 a.c.0 || a.c.0 == b.c.0 && nat_lt b.inst.0 a.inst.0
 
+-- Lines are in order: none comes after a later one.
+abbrev pub IsInOrder : List HistoryLine → Type 0
+IsInOrder [] = Unit {0}
+IsInOrder (a ∷ more) = AllByRecursion (λ b. is_after a b ≡ false) more × IsInOrder more
+
 -- lines in order with one more, behind all that don't come after it
 abbrev pub entered : HistoryLine → List HistoryLine → List HistoryLine
 entered a [] = a ∷ []

@@ -2,7 +2,7 @@ ghost use Rattle.std.specs.Prelude.{[], ◌≡◌, ◌∷◌, ◌++◌, ◌≤�
 ghost use Rattle.std.specs.List.{All, filter_map};
 ghost use Rattle.rac_nums.specs.declared.redo.Redo.{Redo};
 ghost use Rattle.redo_record.specs.Redo.{IsRedo};
-ghost use Rattle.log_table.specs.LogHistory.{entered, in_order, is_after, is_commit, log_history};
+ghost use Rattle.log_table.specs.LogHistory.{IsInOrder, entered, in_order, is_after, is_commit, log_history};
 ghost use Rattle.log_table.specs.Logs.{AreLogs, IsBad, bytes_of, records_of, torn_ends};
 ghost use Rattle.log_table.specs.Standing.{change_for, line_by, lines_by};
 
@@ -42,20 +42,23 @@ fn is_after(a: &HistoryLine, b: &HistoryLine) -> bool
 
 /// The place of a line among others in order.
 fn place_among(line: &HistoryLine, lines: &[HistoryLine]) -> usize
+    requires { IsInOrder lines.now }
     ensures within { result ≤ length lines.now }
     ensures entered { entered line.now lines.now ≡ take result lines.now ++ line.now ∷ drop result lines.now }
 {
-    for (at, other) in lines.iter().enumerate() {
-        if is_after(other, line) {
-            return at;
-        }
+    // From the end, since the lines of a thread come nearly in order.
+    let mut at = lines.len();
+    while at > 0 && is_after(&lines[at - 1], line) {
+        at -= 1;
     }
-    lines.len()
+    at
 }
 
 /// Adds a line to others in order.
 fn enter(line: HistoryLine, lines: &mut Vec<HistoryLine>) -> Result<(), NoMemory>
-    ensures { OnOk result (lines.new.items ≡ entered line lines.old.items) }
+    requires { IsInOrder lines.old.items }
+    ensures entered { OnOk result (lines.new.items ≡ entered line lines.old.items) }
+    ensures ordered { OnOk result (IsInOrder lines.new.items) }
 {
     let at = place_among(&line, lines.as_slice());
     lines.insert(at, line)?;
@@ -70,8 +73,10 @@ fn enter_thread(
     standing: &StandingGroups,
     lines: &mut Vec<HistoryLine>,
 ) -> Result<(), NoMemory>
-    ensures { OnOk result (lines.new.items ≡
+    requires { IsInOrder lines.old.items }
+    ensures entered { OnOk result (lines.new.items ≡
         in_order lines.old.items (filter_map (line_by standing.now thread.0) records.now)) }
+    ensures ordered { OnOk result (IsInOrder lines.new.items) }
 {
     for redo in records {
         if is_commit(redo.kind) {

@@ -16,7 +16,8 @@ loop-thread-preserved g c =
     let few : thread < 8 = omega arith in
     let more : bytes_of c.push.new.self.items ≡ bytes_of logs ++ log.items ∷ [] =
     ap bytes_of {y = logs ++ log ∷ []} c.in_ok-push.ensures.items ∙ map-append (λ (log : Vec ℕ Global). log.items) logs (log ∷ []) in
-    let read = read_more thread (bytes_of logs) log.items old (g.D.SharedDisk.state c.loop-thread.disk) new few c.loop-thread.invariant.read c.in_ok-log.ensures.bytes c.in_ok-log.ensures.kept in
+    let mid = g.D.SharedDisk.state c.loop-thread.disk in
+    let read = read_more thread (bytes_of logs) log.items old mid new few c.loop-thread.invariant.read c.in_ok-log.ensures.bytes c.in_ok-log.ensures.kept in
     record {
       count = grind (arith, common_steps);
       read = subst (λ (bytes : List (List ℕ)). ReadSoFar (thread + 1) bytes old new) (sym more) read;

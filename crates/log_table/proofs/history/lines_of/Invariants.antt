@@ -1,8 +1,13 @@
 use Rattle.std.proofs.Common.{◌≡◌, [], drop}
-use Rattle.log_table.specs.LogHistory.{in_order}
+use Rattle.log_table.specs.LogHistory.{IsInOrder, in_order}
 use Rattle.log_table.specs.Logs.{records_of}
 use Rattle.log_table.specs.Standing.{lines_by}
 use Rattle.log_table.proofs.history.lines_of.Given as goal
 
 abbrev pub invariant-loop-thread : goal.invariant-loop-thread
-invariant-loop-thread l = in_order l.lines.items (lines_by l.standing l.thread (records_of (drop l.thread l.threads))) ≡ in_order [] (lines_by l.standing 0 (records_of l.threads))
+invariant-loop-thread l = record {
+  entered :
+      in_order l.lines.items (lines_by l.standing l.thread (records_of (drop l.thread l.threads)))
+      ≡ in_order [] (lines_by l.standing 0 (records_of l.threads));
+  ordered : IsInOrder l.lines.items;
+}

@@ -1,6 +1,12 @@
-use Rattle.std.proofs.Common.{◌≡◌, ◌++◌, take, drop}
+use Rattle.std.proofs.Common.{◌≡◌, ◌≤◌, ◌∷◌, drop, length}
 use Rattle.log_table.specs.LogHistory.{entered}
 use Rattle.log_table.proofs.history.place_among.Given as goal
 
 abbrev pub invariant-loop-at : goal.invariant-loop-at
-invariant-loop-at l = entered l.line l.lines ≡ take l.at l.lines ++ entered l.line (drop l.at l.lines)
+invariant-loop-at l = record {
+  within : l.at ≤ length l.lines;
+  before : entered l.line (drop l.at l.lines) ≡ l.line ∷ drop l.at l.lines;
+}
+
+abbrev pub decreases-loop-at : goal.decreases-loop-at
+decreases-loop-at l = l.at
