@@ -54,6 +54,7 @@ fn change_blocks<D: SharedDisk>(disk: &mut D) -> Result<(), Failed> {
     for (block, byte) in [(199, 1), (199, 2), (197, 3)] {
         fill_block(disk, BlockNo(block), byte)?;
     }
+    disk.write_control(InstNo(0), &[5; 32])?;
     disk.write_control(THREAD, &[4; 32])
 }
 
@@ -76,7 +77,7 @@ fn see_blocks<D: SharedDisk>(rt: &impl Abort, disk: &mut D) -> Result<(), Failed
             "block {block}"
         );
     }
-    for (thread, want) in [(7, 4), (6, 0), (0, 0)] {
+    for (thread, want) in [(7, 4), (6, 0), (0, 5)] {
         assert_eq!(rt;
             ends_of_entry(disk, InstNo(thread))?,
             (want, want),
