@@ -2,7 +2,7 @@ ghost use Rattle.std.specs.Prelude.{◌≡◌, [], ◌⊎◌, IfSome, Some, true
 ghost use Rattle.std.specs.Io.KnownBytes.{Appends};
 ghost use Rattle.rac_io.specs.Counts.{Counts, Rose};
 ghost use Rattle.rac_io.specs.Write.{AppendsPart};
-ghost use Rattle.rac_top.specs.Exits.{NoteFits, NamesBadLog, Audits, AuditsPart, is_audit_status, is_silent};
+ghost use Rattle.rac_top.specs.Exits.{Audits, AuditsPart, HasGoodLogs, NamesBadLog, NoteFits, is_audit_status, is_silent};
 
 use crate::exit::{Exit, Note};
 use log_audit::{AuditError, audit};
@@ -31,6 +31,7 @@ pub fn audit_disk<K: Sink, D: SharedDisk>(alloc: Global, sink: &mut K, disk: &mu
     ensures note { NoteFits result.note result.status }
     ensures journal { result.journal ≡ [] }
     ensures bad_log { result.status ≡ 9 → IfSome (D.state disk.old) (NamesBadLog result.note) }
+    ensures good_logs { (result.status ≡ 0) ⊎ (result.status ≡ 5) → IfSome (D.state disk.old) HasGoodLogs }
     ensures disk_fault { Counts (result.status ≡ 6) (D.faults disk.old) (D.faults disk.new) }
     ensures full { D.full disk.new ≡ D.full disk.old }
     ensures kept { IfSome (D.state disk.old) (λ it. D.state disk.new ≡ Some it) }

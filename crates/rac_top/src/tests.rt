@@ -358,7 +358,7 @@ fn the_log_tells_the_history_wherever_it_was_cut(rt: HostRuntime) -> Result<(), 
 /// An audit: the bytes of the first log, the calls of the disk that fail and the room of the sink; and how it ends,
 /// with what is written.
 #[derive(Clone, Copy)]
-struct Audit<'a> {
+struct AuditCase<'a> {
     log: &'a [u8],
     disk_fails: &'a [Planned],
     room: usize,
@@ -367,7 +367,7 @@ struct Audit<'a> {
     written: &'a str,
 }
 
-const AUDIT: Audit<'static> = Audit {
+const EMPTY_LOG: AuditCase<'static> = AuditCase {
     log: &[],
     disk_fails: &[],
     room: 1000,
@@ -376,30 +376,30 @@ const AUDIT: Audit<'static> = Audit {
     written: "",
 };
 
-const AUDITS: [Audit<'static>; 5] = [
-    AUDIT,
-    Audit {
+const AUDITS: [AuditCase<'static>; 5] = [
+    EMPTY_LOG,
+    AuditCase {
         log: &[5],
         written: "torn 0 0\n",
-        ..AUDIT
+        ..EMPTY_LOG
     },
-    Audit {
+    AuditCase {
         log: &[0, 5, 9],
         status: 9,
         note: Note::BadLog {
             thread: InstNo(0),
             place: 0,
         },
-        ..AUDIT
+        ..EMPTY_LOG
     },
-    Audit {
+    AuditCase {
         log: &[5],
         room: 4,
         status: 5,
         written: "torn",
-        ..AUDIT
+        ..EMPTY_LOG
     },
-    Audit {
+    AuditCase {
         log: &[5],
         disk_fails: &[Planned {
             what: CallKind::ReadLog,
@@ -407,7 +407,7 @@ const AUDITS: [Audit<'static>; 5] = [
             keep: 0,
         }],
         status: 6,
-        ..AUDIT
+        ..EMPTY_LOG
     },
 ];
 

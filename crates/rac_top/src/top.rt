@@ -96,6 +96,8 @@ pub fn rac<S: Source, K: Sink, D: SharedDisk>(
     ensures full { result.status ≢ 7 → IfSome (D.state disk.old) (λ it.
         redo_size result.journal ≤ room_at it 0 → D.full disk.new ≡ D.full disk.old) }
     ensures bad_log { result.status ≡ 9 → IfSome (D.state disk.old) (NamesBadLog result.note) }
+    ensures good_logs { asks_audit (order_in (map string_bytes words.now)) ≡ true → (result.status ≡ 0) ⊎ (result.status ≡ 5) →
+        IfSome (D.state disk.old) HasGoodLogs }
 
     // Where nothing goes wrong, all is done: nothing is refused but for want of memory.
     ensures completes { asks_run (order_in (map string_bytes words.now)) ≡ true →
