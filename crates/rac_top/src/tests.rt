@@ -6,6 +6,7 @@ use rac_nums::{InstNo, RowNo, Scn, Value, Xid};
 use row_model::{Entry, Journal, check};
 use script_text::Rule;
 use std::alloc::{AllocError, Global};
+use std::process::Abort;
 use std::test::Fail;
 
 /// A call: its words, its script, the reads that fail, the room of its sink and the writes that fail, the room of
@@ -38,6 +39,8 @@ const RUN: Case<'static> = Case {
 };
 
 const FIRST: &str = "instances 1\nsession a on 0\na: put 3 42\na: commit\na: get 3\n";
+
+const FIRST_REPORT: &str = "3: changed\n4: committed\n5: rows 3=42\n";
 
 const SECOND: &str = "instances 1\nsession a on 0\na: put 0 1\na: commit\na: get 0\n";
 
@@ -77,7 +80,7 @@ const CASES: [Case<'static>; 23] = [
     },
     Case {
         script: FIRST,
-        written: "3: changed\n4: committed\n5: rows 3=42\n",
+        written: FIRST_REPORT,
         ..RUN
     },
     Case {
@@ -171,7 +174,7 @@ const CASES: [Case<'static>; 23] = [
     Case {
         words: &["run", "--disk", "d"],
         script: FIRST,
-        written: "3: changed\n4: committed\n5: rows 3=42\n",
+        written: FIRST_REPORT,
         ..RUN
     },
     Case {
@@ -218,50 +221,83 @@ const CASES: [Case<'static>; 23] = [
     },
 ];
 
+/// Looks at how a call ended, and at what it wrote.
+fn look(
+    rt: &impl Abort,
+    number: usize,
+    exit: &Exit,
+    sink: &MemSink,
+    status: u8,
+    note: Note,
+    written: &str,
+) {
+    assert_eq!(rt; exit.status, status, "case {number}");
+    assert_eq!(rt; exit.note, note, "case {number}");
+    assert_eq!(rt; sink.bytes(), written.as_bytes(), "case {number}");
+}
+
 #[test]
 fn ends_as_it_should(rt: HostRuntime) -> Result<(), Fail> {
     for (number, case) in CASES.iter().enumerate() {
         let (exit, sink, _) = call(&rt, case)?;
-        assert_eq!(rt; exit.status, case.status, "case {number}");
-        assert_eq!(rt; exit.note, case.note, "case {number}");
-        assert_eq!(rt; sink.bytes(), case.written.as_bytes(), "case {number}");
+        look(
+            &rt,
+            number,
+            &exit,
+            &sink,
+            case.status,
+            case.note,
+            case.written,
+        );
     }
     Ok(())
 }
 
-/// The first script reads twice, its bytes and their end, and writes once.
+/// How the first script ends, and what it writes, where its read of each number fails: it reads twice, its bytes and
+/// their end.
+const FAILED_READS: [(u8, &str); 5] = [
+    (4, ""),
+    (4, ""),
+    (0, FIRST_REPORT),
+    (0, FIRST_REPORT),
+    (0, FIRST_REPORT),
+];
+
+/// The same where its write of each number fails: it writes once.
+const FAILED_WRITES: [(u8, &str); 5] = [
+    (5, ""),
+    (0, FIRST_REPORT),
+    (0, FIRST_REPORT),
+    (0, FIRST_REPORT),
+    (0, FIRST_REPORT),
+];
+
 #[test]
-fn a_failed_call_is_told(rt: HostRuntime) -> Result<(), Fail> {
-    for number in 1..=5 {
-        let fails = [number];
-        let (exit, sink, _) = call(
-            &rt,
-            &Case {
-                script: FIRST,
-                read_fails: &fails,
-                ..RUN
-            },
-        )?;
-        assert_eq!(rt;
-            exit.status,
-            if number <= 2 { 4 } else { 0 },
-            "read {number}"
-        );
-        assert_eq!(rt; sink.bytes().is_empty(), number <= 2, "read {number}");
-        let (exit, sink, _) = call(
-            &rt,
-            &Case {
-                script: FIRST,
-                write_fails: &fails,
-                ..RUN
-            },
-        )?;
-        assert_eq!(rt;
-            exit.status,
-            if number == 1 { 5 } else { 0 },
-            "write {number}"
-        );
-        assert_eq!(rt; sink.bytes().is_empty(), number == 1, "write {number}");
+fn a_failed_read_is_told(rt: HostRuntime) -> Result<(), Fail> {
+    for (number, (status, written)) in FAILED_READS.iter().enumerate() {
+        let fails = [number as u32 + 1];
+        let case = Case {
+            script: FIRST,
+            read_fails: &fails,
+            ..RUN
+        };
+        let (exit, sink, _) = call(&rt, &case)?;
+        look(&rt, number, &exit, &sink, *status, Note::Nothing, written);
+    }
+    Ok(())
+}
+
+#[test]
+fn a_failed_write_is_told(rt: HostRuntime) -> Result<(), Fail> {
+    for (number, (status, written)) in FAILED_WRITES.iter().enumerate() {
+        let fails = [number as u32 + 1];
+        let case = Case {
+            script: FIRST,
+            write_fails: &fails,
+            ..RUN
+        };
+        let (exit, sink, _) = call(&rt, &case)?;
+        look(&rt, number, &exit, &sink, *status, Note::Nothing, written);
     }
     Ok(())
 }
@@ -326,11 +362,14 @@ fn the_log_tells_the_history_wherever_it_was_cut(rt: HostRuntime) -> Result<(), 
                 ..RUN
             },
         )?;
-        assert_eq!(rt; exit.status, 6, "keep {keep}");
-        assert_eq!(rt;
-            sink.bytes(),
-            "3: changed\n4: ORA-03113\n".as_bytes(),
-            "keep {keep}"
+        look(
+            &rt,
+            keep as usize,
+            &exit,
+            &sink,
+            6,
+            Note::Nothing,
+            "3: changed\n4: ORA-03113\n",
         );
         assert!(rt; check(alloc, 32, &exit.journal)?, "keep {keep}");
         let commits = commits_in(alloc, &exit.journal)?;
@@ -431,35 +470,44 @@ fn tells_what_the_logs_have(rt: HostRuntime) -> Result<(), Fail> {
         let mut disk = MemDisk::new(alloc, 200, 1000, case.disk_fails.to_vec(alloc)?)?;
         disk.append(InstNo(0), case.log)?;
         let (exit, sink) = audit(&rt, &mut disk, case.room)?;
-        assert_eq!(rt; exit.status, case.status, "audit {number}");
-        assert_eq!(rt; exit.note, case.note, "audit {number}");
-        assert_eq!(rt; sink.bytes(), case.written.as_bytes(), "audit {number}");
+        look(
+            &rt,
+            number,
+            &exit,
+            &sink,
+            case.status,
+            case.note,
+            case.written,
+        );
     }
     Ok(())
 }
 
-#[test]
-fn tells_what_a_run_left(rt: HostRuntime) -> Result<(), Fail> {
-    let (_, _, mut disk) = call(
-        &rt,
-        &Case {
+/// Runs, and what the audit of the disk that each left writes.
+const LEFT: [(Case<'static>, &str); 2] = [
+    (
+        Case {
             script: FIRST,
             ..RUN
         },
-    )?;
-    let (exit, sink) = audit(&rt, &mut disk, 1000)?;
-    assert_eq!(rt; exit.status, 0);
-    assert_eq!(rt; sink.bytes(), "commit 2 0 0.0.1 3=42\n".as_bytes());
-    let (_, _, mut disk) = call(
-        &rt,
-        &Case {
+        "commit 2 0 0.0.1 3=42\n",
+    ),
+    (
+        Case {
             script: SECOND,
             disk_fails: &[PART_OF_AN_APPEND],
             ..RUN
         },
-    )?;
-    let (exit, sink) = audit(&rt, &mut disk, 1000)?;
-    assert_eq!(rt; exit.status, 0);
-    assert_eq!(rt; sink.bytes(), "torn 0 0\n".as_bytes());
+        "torn 0 0\n",
+    ),
+];
+
+#[test]
+fn tells_what_a_run_left(rt: HostRuntime) -> Result<(), Fail> {
+    for (number, (case, written)) in LEFT.iter().enumerate() {
+        let (_, _, mut disk) = call(&rt, case)?;
+        let (exit, sink) = audit(&rt, &mut disk, 1000)?;
+        look(&rt, number, &exit, &sink, 0, Note::Nothing, written);
+    }
     Ok(())
 }
