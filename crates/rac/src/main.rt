@@ -8,14 +8,13 @@ ghost use Rattle.rac_top.specs.Exits.{NoteFits};
 
 mod notes;
 
-use cli_words::{Folder, Order, WordsError};
+use cli_words::{Folder, Order, WordsError, read_words};
 use file_disk::FileDisk;
 use notes::note_line;
 use rac_disk::{MemDisk, SharedDisk};
 use rac_io::{StdSink, StdSource};
 use rac_nums::NoMemory;
 use rac_top::{Exit, Note, rac};
-use row_model::Journal;
 use std::process::ExitCode;
 use std::rt::Env;
 use std::{env, io};
@@ -27,19 +26,8 @@ const BLOCKS: u16 = 200;
 const LOG_BYTES: u64 = 8_388_608;
 
 /// The words after the program's name.
-fn read_words<R: Env + AllocGlobal>(rt: &R) -> io::Result<Vec<String>> {
+fn words_given<R: Env + AllocGlobal>(rt: &R) -> io::Result<Vec<String>> {
     Ok(env::args(rt)?.skip(1).collect(rt.alloc())?)
-}
-
-/// An exit without a run.
-fn without_run<R: AllocGlobal>(rt: &R, status: u8, note: Note) -> Exit
-    ensures { result ≡ record { status = status; note = note; journal = [] } }
-{
-    Exit {
-        status,
-        note,
-        journal: Journal::new(rt.alloc()),
-    }
 }
 
 /// The exit where the words could not be had: for want of memory, or since one of them is no text.
@@ -48,14 +36,14 @@ fn exit_without_words<R: AllocGlobal>(rt: &R, why: io::Error) -> Exit
     ensures silent { result.journal ≡ [] }
 {
     match why.kind() {
-        io::ErrorKind::OutOfMemory => without_run(rt, 7, Note::Nothing),
-        _ => without_run(rt, 2, Note::Usage),
+        io::ErrorKind::OutOfMemory => Exit::without_run(rt.alloc(), 7, Note::Nothing),
+        _ => Exit::without_run(rt.alloc(), 2, Note::Usage),
     }
 }
 
 /// The folder that the words name; none where they name none, or give no order.
 fn folder_named(rt: &HostRuntime, words: &[String]) -> Result<Option<Folder>, NoMemory> {
-    match cli_words::read_words(rt.alloc(), words) {
+    match read_words(rt.alloc(), words) {
         Ok(Order::Run { folder, .. }) => Ok(folder),
         Ok(Order::Audit { folder }) => Ok(Some(folder)),
         Err(WordsError::Usage) => Ok(None),
@@ -79,18 +67,18 @@ fn run(rt: &HostRuntime, words: &[String]) -> Exit
     match folder_named(rt, words) {
         Ok(Some(folder)) => match FileDisk::at(rt, folder.as_str(), BLOCKS) {
             Ok(mut disk) => call(rt, words, &mut disk),
-            Err(NoMemory) => without_run(rt, 7, Note::Nothing),
+            Err(NoMemory) => Exit::without_run(rt.alloc(), 7, Note::Nothing),
         },
         Ok(None) => match MemDisk::new(rt.alloc(), BLOCKS, LOG_BYTES, Vec::new(rt.alloc())) {
             Ok(mut disk) => call(rt, words, &mut disk),
-            Err(NoMemory) => without_run(rt, 7, Note::Nothing),
+            Err(NoMemory) => Exit::without_run(rt.alloc(), 7, Note::Nothing),
         },
-        Err(NoMemory) => without_run(rt, 7, Note::Nothing),
+        Err(NoMemory) => Exit::without_run(rt.alloc(), 7, Note::Nothing),
     }
 }
 
 fn main(rt: HostRuntime) -> ExitCode {
-    let exit = match read_words(&rt) {
+    let exit = match words_given(&rt) {
         Ok(words) => run(&rt, words.as_slice()),
         Err(why) => exit_without_words(&rt, why),
     };

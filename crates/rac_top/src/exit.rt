@@ -32,7 +32,7 @@ pub struct Exit {
 
 impl Exit {
     /// An exit at which nothing was run.
-    pub(crate) fn without_run(alloc: Global, status: u8, note: Note) -> Exit
+    pub fn without_run(alloc: Global, status: u8, note: Note) -> Exit
         ensures { result ≡ record { status = status; note = note; journal = [] } }
     {
         Exit {
