@@ -1,6 +1,8 @@
 ghost use Rattle.std.specs.Prelude.{◌≡◌, ℕ, Ok, Err, IfOk, IfSome, IsOk, IsErrOf, ◌≢◌};
 ghost use Rattle.std.specs.Io.KnownBytes.{IsAtEnd};
 ghost use Rattle.rac_io.specs.Counts.{Counts};
+ghost use Rattle.rac_io.specs.Read.{TakesUpTo};
+ghost use Rattle.script_text.specs.Limits.{text_bytes};
 ghost use Rattle.script_text.specs.Reading.{reading};
 ghost use Rattle.script_text.specs.WellFormed.{IsWellFormed};
 ghost use Rattle.rac_top.specs.Runs.{Says};
@@ -43,6 +45,7 @@ fn read_text(alloc: Global, text: &[u8]) -> Result<Script, Unread>
 pub fn read<S: Source>(alloc: Global, source: &mut S) -> Result<Script, Unread>
     ensures says { IfSome (S.left source.old) (λ text. Says result (reading text)) }
     ensures well_formed { IfOk result IsWellFormed }
+    ensures taken { TakesUpTo text_bytes (S.left source.old) (S.left source.new) }
     ensures ended { IsOk result → IsAtEnd (S.left source.new) }
     ensures faults { Counts (IsErrOf result Unread.Fault) (S.faults source.old) (S.faults source.new) }
 {

@@ -9,7 +9,9 @@ ghost use Rattle.script_text.specs.GoodLines.{GoodLines, AllAnswered};
 ghost use Rattle.cli_words.specs.Orders.{order_in};
 ghost use Rattle.rac_top.specs.Words.{asks_run, asks_journal, asks_audit};
 ghost use Rattle.rac_top.specs.Runs.{Says};
+ghost use Rattle.rac_io.specs.Read.{TakesUpTo};
 ghost use Rattle.rac_io.specs.Write.{AppendsPart};
+ghost use Rattle.script_text.specs.Limits.{text_bytes};
 ghost use Rattle.rac_disk.specs.Disk.{room_at};
 ghost use Rattle.plain_node.specs.Ends.{causes_in};
 ghost use Rattle.plain_node.specs.RedoSize.{redo_size};
@@ -110,6 +112,9 @@ pub fn rac<S: Source, K: Sink, D: SharedDisk>(
         Stayed (K.faults sink.old) (K.faults sink.new) → Stayed (K.stalls sink.old) (K.stalls sink.new) →
         is_done result.status ≡ true }
     ensures whole { asks_run (order_in (map string_bytes words.now)) ≡ true → result.status ≡ 0 → IsAtEnd (S.left source.new) }
+
+    // Reading stops after so many bytes.
+    ensures reads { TakesUpTo text_bytes (S.left source.old) (S.left source.new) }
 
     // What is written.
     ensures report { asks_run (order_in (map string_bytes words.now)) ≡ true → IsReported result → IfSome (S.left source.old) (λ text.
