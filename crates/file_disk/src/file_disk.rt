@@ -3,7 +3,7 @@ ghost use Rattle.rac_io.specs.Counts.{Counts};
 
 use crate::disk_file::DiskFile;
 use rac_disk::{Failed, SharedDisk};
-use rac_nums::{BlockNo, InstNo, NoMemory};
+use base_types::{BlockNo, InstNo, NoMemory};
 use std::fs::OpenFile;
 use std::io;
 use std::io::{Read, Seek, SeekFrom, Write};

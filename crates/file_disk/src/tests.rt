@@ -2,7 +2,7 @@ ghost use Rattle.std.specs.Prelude.{◌<◌};
 
 use super::*;
 use rac_disk::{Failed, SharedDisk};
-use rac_nums::{BlockNo, InstNo};
+use base_types::{BlockNo, InstNo};
 use std::fs;
 use std::process::Abort;
 use std::test::Fail;

@@ -1,11 +1,11 @@
 -- What an audit tells of the logs of a disk.
 use Rattle.std.specs.Prelude.{◌≡◌, ℕ, List, map, Option, Some, IfSome}
-use Rattle.rac_nums.specs.declared.redo.Redo.{Redo}
+use Rattle.redo_types.specs.declared.redo.Redo.{Redo}
 use Rattle.rac_disk.specs.Disk.{DiskState, IsDisk}
-use Rattle.log_table.specs.LogHistory.{log_history}
-use Rattle.log_table.specs.Logs.{AreLogs, IsFirstWrong, torn_ends}
-use Rattle.log_table.specs.declared.error.LogError.{LogError}
-use Rattle.log_table.specs.declared.error.LogError.TheVariants as causes
+use Rattle.log_history.specs.LogHistory.{log_history}
+use Rattle.log_history.specs.Logs.{AreLogs, IsFirstWrong, torn_ends}
+use Rattle.log_history.specs.declared.error.LogError.{LogError}
+use Rattle.log_history.specs.declared.error.LogError.TheVariants as causes
 use Rattle.log_audit.specs.declared.error.AuditError.{AuditError}
 use Rattle.log_audit.specs.declared.error.AuditError.TheVariants.{Failed, BadLog, NoMemory}
 use Rattle.log_audit.specs.Texts.{audit_text}

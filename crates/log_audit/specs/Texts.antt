@@ -1,8 +1,8 @@
 -- What the history of logs and their torn ends print as.
 use Rattle.std.specs.Prelude.{ℕ, List, ◌++◌, codes, decimal, flat_map}
-use Rattle.rac_nums.specs.declared.names.InstNo.{InstNo}
-use Rattle.rac_nums.specs.Texts.{xid_text}
-use Rattle.log_table.specs.declared.line.HistoryLine.{HistoryLine}
+use Rattle.base_types.specs.declared.names.InstNo.{InstNo}
+use Rattle.base_types.specs.Texts.{xid_text}
+use Rattle.log_history.specs.declared.line.HistoryLine.{HistoryLine}
 use Rattle.run_report.specs.Texts.{◌⧺◌, rows_text}
 
 -- A committed transaction prints with its SCN, its thread, its name and what its changes put into rows.

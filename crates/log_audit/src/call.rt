@@ -5,7 +5,7 @@ ghost use Rattle.log_audit.specs.Audits.{IsBadIn, Tells};
 use crate::error::AuditError;
 use crate::reading::read_logs;
 use crate::text::text_of;
-use log_table::history_of;
+use log_history::history_of;
 use rac_disk::SharedDisk;
 use std::alloc::Global;
 

@@ -1,12 +1,12 @@
 ghost use Rattle.std.specs.Prelude.{◌≡◌, ◌<◌, IfErr, IfOk, IfSome, IsErrOf, Some, length};
 ghost use Rattle.rac_io.specs.Counts.{Counts};
 ghost use Rattle.rac_disk.specs.Disk.{log_at};
-ghost use Rattle.log_table.specs.Logs.{bytes_of};
+ghost use Rattle.log_history.specs.Logs.{bytes_of};
 ghost use Rattle.log_audit.specs.Audits.{IsUnread, Keeps, logs_in};
 
 use crate::error::AuditError;
 use rac_disk::SharedDisk;
-use rac_nums::InstNo;
+use base_types::InstNo;
 use std::alloc::Global;
 
 /// Reads the log of a thread.

@@ -1,6 +1,6 @@
 -- Which field of a front is the first wrong one.
 use Rattle.std.proofs.Common.{◌≡◌, ℕ, zero, suc, ◌^◌, ◌<◌, ◌≤◌, ◌↔◌, List, length, drop, slice_index, refl, sym, ap, subst, arith}
-use Rattle.rac_nums.specs.Bytes.{number_at}
+use Rattle.base_types.specs.Bytes.{number_at}
 use Rattle.part_image.specs.declared.front.BlockFront.{BlockFront}
 use Rattle.part_image.specs.declared.front.BlockKind.{BlockKind}
 use Rattle.part_image.specs.declared.front.BlockKind.TheVariants.{Data, Header, Undo}

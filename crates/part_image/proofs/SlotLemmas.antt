@@ -1,7 +1,7 @@
 -- What is read of ITL slots.
 use Rattle.std.proofs.Common.{◌≡◌, ℕ, ◌≤◌, ◌⊎◌, List, [], ◌∷◌, length, take, drop, refl, sym, ap}
-use Rattle.rac_nums.specs.declared.blocks.ItlSlot.{ItlSlot}
-use Rattle.rac_nums.specs.Bytes.{number_at, xid_at}
+use Rattle.redo_types.specs.declared.blocks.ItlSlot.{ItlSlot}
+use Rattle.base_types.specs.Bytes.{number_at, xid_at}
 use Rattle.part_image.specs.Cells.{Begins}
 use Rattle.part_image.specs.Slots.{IsItl, IsUsedItl, itl_bytes, itl_cells, unused_itl}
 use Rattle.part_image.proofs.Numbers.{IsBytes}

@@ -1,9 +1,9 @@
 -- What numbers of states and facts tell.
 use Rattle.std.proofs.Common.{◌≡◌, ℕ, ◌≤◌, Bool, true, false, List, length, slice_index, refl, arith}
-use Rattle.rac_nums.specs.declared.undo.TxnState.{TxnState}
-use Rattle.rac_nums.specs.declared.undo.TxnState.TheVariants.{Never, Active, Committed, RolledBack}
-use Rattle.rac_nums.specs.declared.undo.UndoRecord.{UndoRecord}
-use Rattle.rac_nums.specs.Bytes.{number_at}
+use Rattle.redo_types.specs.declared.undo.TxnState.{TxnState}
+use Rattle.redo_types.specs.declared.undo.TxnState.TheVariants.{Never, Active, Committed, RolledBack}
+use Rattle.redo_types.specs.declared.undo.UndoRecord.{UndoRecord}
+use Rattle.base_types.specs.Bytes.{number_at}
 use Rattle.part_image.specs.Cells.{Begins, StandsAt}
 use Rattle.part_image.specs.Slots.{bit, bits_of, flag_of, itl_bytes, itl_cells}
 use Rattle.part_image.specs.Undo.{HasClearSpaces, HasRanges, IsUndoRecord, state_number, undo_record_bytes, undo_record_cells}

@@ -1,9 +1,9 @@
 -- Slots of the transaction table and undo records, as bytes.
 use Rattle.std.specs.Prelude.{◌≡◌, ℕ, ◌<◌, ◌≤◌, ◌⊎◌, ◌↔◌, List, [], ◌∷◌, ◌++◌, drop, replicate, take, Option, None, Some}
-use Rattle.rac_nums.specs.declared.undo.TxnSlot.{TxnSlot}
-use Rattle.rac_nums.specs.declared.undo.TxnState.{TxnState}
-use Rattle.rac_nums.specs.declared.undo.TxnState.TheVariants.{Never, Active, Committed, RolledBack}
-use Rattle.rac_nums.specs.declared.undo.UndoRecord.{UndoRecord}
+use Rattle.redo_types.specs.declared.undo.TxnSlot.{TxnSlot}
+use Rattle.redo_types.specs.declared.undo.TxnState.{TxnState}
+use Rattle.redo_types.specs.declared.undo.TxnState.TheVariants.{Never, Active, Committed, RolledBack}
+use Rattle.redo_types.specs.declared.undo.UndoRecord.{UndoRecord}
 use Rattle.part_image.specs.Cells.{Cell, Byte, Number, Zeros, spelled, AllFit}
 use Rattle.part_image.specs.Slots.{IsItl, IsValue, bit, bits_of, flag_of, itl_cells}
 

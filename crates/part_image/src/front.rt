@@ -1,10 +1,11 @@
 ghost use Rattle.std.specs.Prelude.{◌≡◌, ◌≤◌, ◌+◌, ◌↔◌, true, length, IfErr, IfOk};
-ghost use Rattle.rac_nums.specs.Bytes.{Puts};
+ghost use Rattle.base_types.specs.Bytes.{Puts};
 ghost use Rattle.part_image.specs.Cells.{Begins, IsFirstWrong};
 ghost use Rattle.part_image.specs.Front.{HasNext, HasScn, HasSegmentIn, IsFront, front_bytes, front_fields, kind_number};
 
 use crate::bytes::{are_zeros, put_u8, put_zeros};
-use rac_nums::{BadBlock, BlockNo, InstNo, Scn, get_u16, get_u64, put_u16, put_u64};
+use base_types::{BlockNo, InstNo, Scn, get_u16, get_u64, put_u16, put_u64};
+use redo_types::BadBlock;
 
 /// The kinds of block.
 #[derive(Clone, Copy, Debug, PartialEq, Eq)]

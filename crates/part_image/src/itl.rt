@@ -1,10 +1,11 @@
 ghost use Rattle.std.specs.Prelude.{◌≡◌, ◌≤◌, ◌+◌, ◌↔◌, ◌⊎◌, true, drop, length};
-ghost use Rattle.rac_nums.specs.Bytes.{Puts};
+ghost use Rattle.base_types.specs.Bytes.{Puts};
 ghost use Rattle.part_image.specs.Cells.{Reads};
 ghost use Rattle.part_image.specs.Slots.{IsItl, IsUsedItl, itl_bytes, itl_cells, unused_itl};
 
 use crate::bytes::are_zeros;
-use rac_nums::{ItlSlot, get_u64, get_xid, put_u64, put_xid};
+use base_types::{get_u64, get_xid, put_u64, put_xid};
+use redo_types::ItlSlot;
 
 /// The ITL slot in the 16 bytes from a place on; `None` where they are none.
 pub fn read_itl(bytes: &[u8], at: usize) -> Option<ItlSlot>

@@ -1,5 +1,6 @@
 use super::*;
-use rac_nums::{BlockNo, InstNo, ItlSlot, Scn, TxnSlot, TxnState, UndoRecord, Value, Xid};
+use base_types::{BlockNo, InstNo, Scn, Value, Xid};
+use redo_types::{ItlSlot, TxnSlot, TxnState, UndoRecord};
 
 const VALUES: [(Value, u8, u64); 6] = [
     (Value::Absent, 0, 0),

@@ -1,10 +1,11 @@
 ghost use Rattle.std.specs.Prelude.{◌≡◌, ◌≤◌, ◌+◌, ◌↔◌, true, drop, length};
-ghost use Rattle.rac_nums.specs.Bytes.{Puts};
+ghost use Rattle.base_types.specs.Bytes.{Puts};
 ghost use Rattle.part_image.specs.Cells.{Reads};
 ghost use Rattle.part_image.specs.Undo.{HasState, IsReadState, IsTxnSlot, NamesEndBefore, state_number, txn_slot_bytes, txn_slot_cells};
 
 use crate::bytes::{are_zeros, put_u8, put_zeros};
-use rac_nums::{Scn, TxnSlot, TxnState, get_u32, get_u64, put_u32, put_u64};
+use base_types::{Scn, get_u32, get_u64, put_u32, put_u64};
+use redo_types::{TxnSlot, TxnState};
 
 /// The slot of a transaction table in the 40 bytes from a place on; `None` where they are none.
 pub fn read_txn_slot(bytes: &[u8], at: usize) -> Option<TxnSlot>

@@ -2,7 +2,7 @@
 use Rattle.std.proofs.Common.{◌≡◌, ◌∙◌, ℕ, inl, inr, List, map, reverse, true, Option, Some, None, is_some, sym, ap}
 use Rattle.std.specs.Prelude.{IsSomeAnd}
 use Rattle.rac_disk.specs.Disk.{DiskState}
-use Rattle.row_model.specs.History.{Commit}
+use Rattle.journal.specs.History.{Commit}
 use Rattle.script_text.specs.declared.item.Item.{Item}
 use Rattle.script_text.specs.declared.item.Item.TheVariants.{Session, CrashAfter, CrashMark, Start, Remaster, Checkpoint, Hold}
 use Rattle.script_text.specs.declared.item.Item.TheVariants.{Stmt as Statement}

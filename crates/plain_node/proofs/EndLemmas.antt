@@ -1,9 +1,9 @@
 -- How the end of a transaction goes, or is cut short.
 use Rattle.std.proofs.Common.{◌≡◌, ◌∙◌, ℕ, ◌-◌, ◌^◌, ◌<◌, ◌⊎◌, inl, inr, ◌++◌, Option, Some, None, refl, ap, subst, arith}
 use Rattle.std.specs.Prelude.{IsSome, IsSomeAnd}
-use Rattle.rac_nums.specs.declared.names.Scn.{Scn}
-use Rattle.rac_nums.specs.declared.names.Xid.{Xid}
-use Rattle.rac_nums.specs.declared.redo.Redo.{Redo}
+use Rattle.base_types.specs.declared.names.Scn.{Scn}
+use Rattle.base_types.specs.declared.names.Xid.{Xid}
+use Rattle.redo_types.specs.declared.redo.Redo.{Redo}
 use Rattle.rac_io.specs.Counts.{Rose}
 use Rattle.rac_disk.specs.Calls.{WhereTold}
 use Rattle.rac_disk.specs.Disk.{DiskState, log_at, with_log}

@@ -4,7 +4,7 @@ use Rattle.std.specs.Prelude.{IsSome, IsSomeAnd}
 use Rattle.std.specs.List.{AllByRecursion}
 use Rattle.std.proofs.lemmas.List.{get_or-set_same, get_or-set_other, length-append, length-take-le, take-append-drop}
 use Rattle.std.proofs.lemmas.List.Concat.{flat_map-append}
-use Rattle.rac_nums.specs.declared.redo.Redo.{Redo}
+use Rattle.redo_types.specs.declared.redo.Redo.{Redo}
 use Rattle.rac_disk.specs.Calls.{WhereTold}
 use Rattle.rac_disk.specs.Disk.{DiskState, IsDisk, LogState, log_at, no_log, room_at, with_log}
 use Rattle.redo_record.specs.Redo.{IsRedo, redo_bytes}
@@ -13,9 +13,9 @@ use Rattle.redo_record.proofs.CutLemmas.{cut_reads_back}
 use Rattle.redo_thread.specs.Thread.{ThreadState, appended, forced}
 use Rattle.plain_node.specs.declared.engine.Engine.{Engine}
 use Rattle.plain_node.specs.declared.node.Node.{Node}
-use Rattle.row_model.specs.declared.entry.Entry.{Entry}
-use Rattle.row_model.specs.History.{Commit, history}
-use Rattle.log_table.specs.LogHistory.{log_history}
+use Rattle.journal.specs.declared.entry.Entry.{Entry}
+use Rattle.journal.specs.History.{Commit, history}
+use Rattle.log_history.specs.LogHistory.{log_history}
 use Rattle.plain_node.specs.Engine.{HoldsLog, IsKept, IsWritten, LogsTell, MadeRoom, MaySave, of_first}
 use Rattle.plain_node.specs.Runs.{IsProper}
 use Rattle.plain_node.specs.Logged.{Logged, line_of_commit}

@@ -4,19 +4,19 @@ use Rattle.std.specs.Prelude.{IsSomeAnd}
 use Rattle.std.specs.List.{AllByRecursion}
 use Rattle.std.proofs.lemmas.Bool.{cases_lt}
 use Rattle.std.proofs.lemmas.List.{length-append, length-take, take-append-drop, take_all}
-use Rattle.rac_nums.specs.declared.names.RowNo.{RowNo}
-use Rattle.rac_nums.specs.declared.names.Xid.{Xid}
-use Rattle.rac_nums.specs.declared.redo.Redo.{Redo}
-use Rattle.rac_nums.specs.declared.value.Value.{Value}
+use Rattle.base_types.specs.declared.names.RowNo.{RowNo}
+use Rattle.base_types.specs.declared.names.Xid.{Xid}
+use Rattle.redo_types.specs.declared.redo.Redo.{Redo}
+use Rattle.base_types.specs.declared.value.Value.{Value}
 use Rattle.rac_disk.specs.Disk.{DiskState, log_at}
 use Rattle.redo_record.specs.Redo.{IsRedo}
 use Rattle.redo_record.specs.Front.{AreWhole, log_bytes}
 use Rattle.redo_thread.specs.Thread.{ThreadState, appended, end_of}
 use Rattle.plain_redo.specs.Records.{change_record}
-use Rattle.log_table.specs.LogHistory.{log_history}
-use Rattle.row_model.specs.declared.entry.Entry.TheVariants.{Started}
-use Rattle.row_model.specs.Good.{Range}
-use Rattle.row_model.specs.History.{Commit, history, history_of_past}
+use Rattle.log_history.specs.LogHistory.{log_history}
+use Rattle.journal.specs.declared.entry.Entry.TheVariants.{Started}
+use Rattle.journal.specs.Good.{Range}
+use Rattle.journal.specs.History.{Commit, history, history_of_past}
 use Rattle.plain_node.specs.declared.engine.Engine.{Engine}
 use Rattle.plain_node.specs.declared.node.Node.{Node}
 use Rattle.plain_node.specs.Engine.{Ends, EndsCut, IsKept, IsWritten, LogsTell, MadeRoom, MaySave, next_commit, of_first}

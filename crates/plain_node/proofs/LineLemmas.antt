@@ -13,9 +13,9 @@ use Rattle.script_text.specs.Reading.{item_in, joined, items_of}
 use Rattle.script_text.specs.WellFormed.{HasRowsBelow, RiseWithin, IsItemWithin, AreItemsWithin, IsOpened, opened_after, AreOpened, IsRead, AreRead, IsWellFormed}
 use Rattle.plain_node.specs.Lined.{last_line, NamesBelow, Opens, AreNext}
 use Rattle.script_text.specs.Lines.{opening, opening_in, earlier, AreAnswered}
-use Rattle.row_model.specs.Past.{Past}
+use Rattle.journal.specs.Past.{Past}
 use Rattle.std.specs.List.{list_any}
-use Rattle.rac_nums.specs.declared.names.InstNo.{InstNo}
+use Rattle.base_types.specs.declared.names.InstNo.{InstNo}
 use Rattle.plain_node.specs.Runs.{RunsPlainly, IsPlain, opens}
 
 -- the item that stands first in what is left

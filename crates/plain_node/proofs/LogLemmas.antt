@@ -2,20 +2,20 @@
 use Rattle.std.proofs.Common.{◌≡◌, ◌∙◌, ℕ, List, [], ◌∷◌, ◌++◌, map, reverse, take, drop, Bool, true, false, Option, Some, None, IfSome, refl, ap, sym, ◌||◌}
 use Rattle.std.specs.List.{AllByRecursion}
 use Rattle.std.proofs.lemmas.List.{append-nil, append_assoc, take-append-drop}
-use Rattle.rac_nums.specs.declared.names.RowNo.{RowNo}
-use Rattle.rac_nums.specs.declared.names.Xid.{Xid}
-use Rattle.rac_nums.specs.declared.names.Scn.{Scn}
-use Rattle.rac_nums.specs.declared.names.InstNo.{InstNo}
-use Rattle.rac_nums.specs.declared.redo.Redo.{Redo}
-use Rattle.rac_nums.specs.declared.value.Value.{Value}
-use Rattle.log_table.specs.declared.line.HistoryLine.{HistoryLine}
-use Rattle.log_table.specs.LogHistory.{is_commit as ends, log_history}
-use Rattle.row_model.specs.Past.{Past}
-use Rattle.row_model.specs.Stood.{stood, is_commit}
-use Rattle.row_model.specs.declared.entry.Entry.{Entry}
-use Rattle.row_model.specs.declared.entry.Entry.TheVariants.{Opened, Started, Rows, Plain, Committed}
-use Rattle.row_model.specs.History.{Commit, history, history_after, history_of_past, marked}
-use Rattle.row_model.proofs.XidLemmas.{same_xid-refl}
+use Rattle.base_types.specs.declared.names.RowNo.{RowNo}
+use Rattle.base_types.specs.declared.names.Xid.{Xid}
+use Rattle.base_types.specs.declared.names.Scn.{Scn}
+use Rattle.base_types.specs.declared.names.InstNo.{InstNo}
+use Rattle.redo_types.specs.declared.redo.Redo.{Redo}
+use Rattle.base_types.specs.declared.value.Value.{Value}
+use Rattle.log_history.specs.declared.line.HistoryLine.{HistoryLine}
+use Rattle.log_history.specs.LogHistory.{is_commit as ends, log_history}
+use Rattle.journal.specs.Past.{Past}
+use Rattle.journal.specs.Stood.{stood, is_commit}
+use Rattle.journal.specs.declared.entry.Entry.{Entry}
+use Rattle.journal.specs.declared.entry.Entry.TheVariants.{Opened, Started, Rows, Plain, Committed}
+use Rattle.journal.specs.History.{Commit, history, history_after, history_of_past, marked}
+use Rattle.journal.proofs.XidLemmas.{same_xid-refl}
 use Rattle.plain_node.specs.declared.node.Node.{Node}
 use Rattle.plain_node.specs.Logged.{Logged, WaitsFor, line_of_commit, lines_in}
 use Rattle.plain_node.specs.Runs.{IsProper}

@@ -6,17 +6,17 @@ use Rattle.std.proofs.lemmas.List.{append-nil, map-append, reverse-append}
 use Rattle.std.proofs.lemmas.List.Elements.{filter_map-append}
 use Rattle.std.proofs.lemmas.Bool.{le-ltb, ltb-false, ltb-true, eqb-true, eq-eqb}
 use Rattle.std.proofs.lemmas.Bool.Decides.{eqb_tells}
-use Rattle.rac_nums.specs.declared.names.RowNo.{RowNo}
-use Rattle.rac_nums.specs.declared.names.Xid.{Xid}
-use Rattle.rac_nums.specs.declared.redo.Redo.{Redo}
-use Rattle.rac_nums.specs.declared.value.Value.{Value}
-use Rattle.log_table.specs.declared.line.HistoryLine.{HistoryLine}
-use Rattle.log_table.specs.LogHistory.{change_in, changes_in, entered as line_entered, in_order, is_after, is_change, is_commit, is_step_back, line_of, log_history, row_and_value, takes_back}
-use Rattle.row_model.specs.Past.{Past, same_xid}
-use Rattle.row_model.specs.declared.entry.Entry.{Entry}
-use Rattle.row_model.specs.declared.entry.Entry.TheVariants.{Committed}
-use Rattle.row_model.specs.History.{Commit, entered, history_after, history_of_past, is_before, marked}
-use Rattle.row_model.proofs.XidLemmas.{same_xid-true}
+use Rattle.base_types.specs.declared.names.RowNo.{RowNo}
+use Rattle.base_types.specs.declared.names.Xid.{Xid}
+use Rattle.redo_types.specs.declared.redo.Redo.{Redo}
+use Rattle.base_types.specs.declared.value.Value.{Value}
+use Rattle.log_history.specs.declared.line.HistoryLine.{HistoryLine}
+use Rattle.log_history.specs.LogHistory.{change_in, changes_in, entered as line_entered, in_order, is_after, is_change, is_commit, is_step_back, line_of, log_history, row_and_value, takes_back}
+use Rattle.journal.specs.Past.{Past, same_xid}
+use Rattle.journal.specs.declared.entry.Entry.{Entry}
+use Rattle.journal.specs.declared.entry.Entry.TheVariants.{Committed}
+use Rattle.journal.specs.History.{Commit, entered, history_after, history_of_past, is_before, marked}
+use Rattle.journal.proofs.XidLemmas.{same_xid-true}
 use Rattle.plain_node.specs.Logged.{line_of_commit, lines_in}
 
 pub All-append : {X : Type 0} (P : X → Type 0) (xs ys : List X) → AllByRecursion P xs → AllByRecursion P ys → AllByRecursion P (xs ++ ys)

@@ -2,24 +2,24 @@
 use Rattle.std.proofs.Common.{◌≡◌, ◌∙◌, ℕ, ◌+◌, ◌<◌, ◌≤◌, List, [], ◌∷◌, ◌++◌, map, reverse, length, take, zero, suc, ◌⊎◌, inl, inr, Bool, true, false, Option, Some, None, MatchOption, refl, ap, sym, subst, arith}
 use Rattle.std.proofs.Math.Nat.{div-add-mod}
 use Rattle.std.proofs.lemmas.List.{append-nil, append_assoc, take_all}
-use Rattle.rac_nums.specs.declared.names.RowNo.{RowNo}
-use Rattle.rac_nums.specs.declared.names.Xid.{Xid}
-use Rattle.rac_nums.specs.declared.names.InstNo.{InstNo}
-use Rattle.rac_nums.specs.declared.names.Scn.{Scn}
-use Rattle.rac_nums.specs.declared.redo.Redo.{Redo}
-use Rattle.rac_nums.specs.declared.value.Value.{Value}
+use Rattle.base_types.specs.declared.names.RowNo.{RowNo}
+use Rattle.base_types.specs.declared.names.Xid.{Xid}
+use Rattle.base_types.specs.declared.names.InstNo.{InstNo}
+use Rattle.base_types.specs.declared.names.Scn.{Scn}
+use Rattle.redo_types.specs.declared.redo.Redo.{Redo}
+use Rattle.base_types.specs.declared.value.Value.{Value}
 use Rattle.redo_record.specs.Redo.{IsRedo}
 use Rattle.plain_redo.specs.Records.{change_record, commit_record}
-use Rattle.log_table.specs.declared.line.HistoryLine.{HistoryLine}
-use Rattle.log_table.specs.LogHistory.{changes_in, is_step_back, log_history}
-use Rattle.row_model.specs.Past.{Past, same_xid}
-use Rattle.row_model.specs.Standing.{Change, changes_of, standing}
-use Rattle.row_model.specs.Stood.{stood, is_commit}
-use Rattle.row_model.specs.declared.entry.Entry.TheVariants.{Opened, Started, Rows, Plain, Changed, Marked, Committed, Acked, Ended, Refused}
-use Rattle.row_model.specs.declared.cause.Cause.TheVariants.{Lost}
-use Rattle.row_model.specs.Good.{Range, listed}
-use Rattle.row_model.specs.History.{Commit, history, history_of_past}
-use Rattle.row_model.proofs.XidLemmas.{same_xid-refl, same_xid-true}
+use Rattle.log_history.specs.declared.line.HistoryLine.{HistoryLine}
+use Rattle.log_history.specs.LogHistory.{changes_in, is_step_back, log_history}
+use Rattle.journal.specs.Past.{Past, same_xid}
+use Rattle.journal.specs.Standing.{Change, changes_of, standing}
+use Rattle.journal.specs.Stood.{stood, is_commit}
+use Rattle.journal.specs.declared.entry.Entry.TheVariants.{Opened, Started, Rows, Plain, Changed, Marked, Committed, Acked, Ended, Refused}
+use Rattle.journal.specs.declared.cause.Cause.TheVariants.{Lost}
+use Rattle.journal.specs.Good.{Range, listed}
+use Rattle.journal.specs.History.{Commit, history, history_of_past}
+use Rattle.journal.proofs.XidLemmas.{same_xid-refl, same_xid-true}
 use Rattle.plain_node.specs.declared.node.Node.{Node}
 use Rattle.plain_node.specs.declared.versions.Pending.{Pending}
 use Rattle.plain_node.specs.Logged.{Logged, WaitsFor, line_of_commit, lines_in, pair_in, pair_of}

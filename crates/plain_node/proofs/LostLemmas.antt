@@ -3,18 +3,18 @@ use Rattle.std.proofs.Common.{◌≡◌, ℕ, ◌+◌, ◌<◌, Bool, false, Lis
 use Rattle.std.specs.Option.{option_and_then}
 use Rattle.std.proofs.lemmas.Bool.{eq-eqb}
 use Rattle.std.proofs.lemmas.List.Elements.{All-push}
-use Rattle.rac_nums.specs.declared.names.Xid.{Xid}
-use Rattle.rac_nums.specs.declared.names.Scn.{Scn}
-use Rattle.rac_nums.specs.declared.names.InstNo.{InstNo}
-use Rattle.row_model.specs.declared.cause.Cause.{Cause}
-use Rattle.row_model.specs.declared.cause.Cause.TheVariants.{Lost}
-use Rattle.row_model.specs.declared.entry.Entry.{Entry}
-use Rattle.row_model.specs.declared.entry.Entry.TheVariants.{Started, Marked, Committed, Acked, Ended, Refused}
-use Rattle.row_model.specs.Past.{Past, Each, start_of}
-use Rattle.row_model.specs.History.{history_of_past}
-use Rattle.row_model.specs.Sees.{own_changes}
-use Rattle.row_model.specs.Stood.{stood, is_commit}
-use Rattle.row_model.specs.Good.{Range, RowsAreSeen, FoundIsSeen, CommitIsProper, AckIsProper, StartIsProper, RowIsFree, changes_in, Replays}
+use Rattle.base_types.specs.declared.names.Xid.{Xid}
+use Rattle.base_types.specs.declared.names.Scn.{Scn}
+use Rattle.base_types.specs.declared.names.InstNo.{InstNo}
+use Rattle.journal.specs.declared.cause.Cause.{Cause}
+use Rattle.journal.specs.declared.cause.Cause.TheVariants.{Lost}
+use Rattle.journal.specs.declared.entry.Entry.{Entry}
+use Rattle.journal.specs.declared.entry.Entry.TheVariants.{Started, Marked, Committed, Acked, Ended, Refused}
+use Rattle.journal.specs.Past.{Past, Each, start_of}
+use Rattle.journal.specs.History.{history_of_past}
+use Rattle.journal.specs.Sees.{own_changes}
+use Rattle.journal.specs.Stood.{stood, is_commit}
+use Rattle.journal.specs.Good.{Range, RowsAreSeen, FoundIsSeen, CommitIsProper, AckIsProper, StartIsProper, RowIsFree, changes_in, Replays}
 use Rattle.script_text.specs.declared.item.Item.{Item}
 use Rattle.script_text.specs.declared.item.Item.TheVariants.{Stmt as Statement}
 use Rattle.script_text.specs.declared.item.Stmt.{Stmt}

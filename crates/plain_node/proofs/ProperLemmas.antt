@@ -3,22 +3,22 @@ use Rattle.std.proofs.Common.{◌≡◌, ◌∙◌, ℕ, ◌+◌, ◌<◌, ◌�
 use Rattle.std.specs.Option.{option_map_or, option_map}
 use Rattle.std.specs.List.{list_any}
 use Rattle.std.proofs.lemmas.Bool.{eq-eqb, ne_eqb, le-leb}
-use Rattle.rac_nums.specs.declared.names.Xid.{Xid}
-use Rattle.rac_nums.specs.declared.names.RowNo.{RowNo}
-use Rattle.rac_nums.specs.declared.names.Scn.{Scn}
-use Rattle.rac_nums.specs.declared.names.InstNo.{InstNo}
-use Rattle.rac_nums.specs.declared.value.Value.{Value}
-use Rattle.rac_nums.specs.declared.value.Value.TheVariants.{Absent}
-use Rattle.row_model.specs.declared.entry.Entry.{Entry}
-use Rattle.row_model.specs.declared.entry.Entry.TheVariants.{Opened, Started, Rows, Changed, Marked, Committed, Acked, Plain}
-use Rattle.row_model.specs.Past.{Past, start_of, same_xid, home_of, is_up}
-use Rattle.row_model.specs.Standing.{Change, changes_of, standing, is_open, row_of}
-use Rattle.row_model.specs.History.{Commit, history_of_past, changes_up_to, value_by}
-use Rattle.row_model.specs.Sees.{own_changes}
-use Rattle.row_model.specs.Stood.{stood, started_after, is_mark, is_mark_by, is_commit, is_commit_at, is_commit_by, started_up_to, came_up}
-use Rattle.row_model.specs.Good.{Range, changes_in, Replays}
-use Rattle.row_model.proofs.XidLemmas.{same_xid-refl, same_xid-true, both_true}
-use Rattle.row_model.proofs.HistoryLemmas.{UpTo, latest_start, latest_start_after}
+use Rattle.base_types.specs.declared.names.Xid.{Xid}
+use Rattle.base_types.specs.declared.names.RowNo.{RowNo}
+use Rattle.base_types.specs.declared.names.Scn.{Scn}
+use Rattle.base_types.specs.declared.names.InstNo.{InstNo}
+use Rattle.base_types.specs.declared.value.Value.{Value}
+use Rattle.base_types.specs.declared.value.Value.TheVariants.{Absent}
+use Rattle.journal.specs.declared.entry.Entry.{Entry}
+use Rattle.journal.specs.declared.entry.Entry.TheVariants.{Opened, Started, Rows, Changed, Marked, Committed, Acked, Plain}
+use Rattle.journal.specs.Past.{Past, start_of, same_xid, home_of, is_up}
+use Rattle.journal.specs.Standing.{Change, changes_of, standing, is_open, row_of}
+use Rattle.journal.specs.History.{Commit, history_of_past, changes_up_to, value_by}
+use Rattle.journal.specs.Sees.{own_changes}
+use Rattle.journal.specs.Stood.{stood, started_after, is_mark, is_mark_by, is_commit, is_commit_at, is_commit_by, started_up_to, came_up}
+use Rattle.journal.specs.Good.{Range, changes_in, Replays}
+use Rattle.journal.proofs.XidLemmas.{same_xid-refl, same_xid-true, both_true}
+use Rattle.journal.proofs.HistoryLemmas.{UpTo, latest_start, latest_start_after}
 use Rattle.plain_node.specs.Versions.{pending_value, ended_value}
 use Rattle.plain_node.specs.Slots.{wrap_at}
 use Rattle.plain_node.specs.Sound.{Parts, Sound, Proper}

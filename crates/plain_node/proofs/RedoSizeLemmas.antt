@@ -3,21 +3,21 @@ use Rattle.std.proofs.Common.{◌≡◌, ◌∙◌, ℕ, ◌+◌, ◌≤◌, ◌
 use Rattle.std.specs.Prelude.{IfSome, MatchOption, slice_index_or, slice_set}
 use Rattle.std.proofs.lemmas.List.{get_or-set_same, length-append}
 use Rattle.std.proofs.lemmas.List.Sums.{sum_by_push}
-use Rattle.rac_nums.specs.declared.names.InstNo.{InstNo}
-use Rattle.rac_nums.specs.declared.names.RowNo.{RowNo}
-use Rattle.rac_nums.specs.declared.names.Xid.{Xid}
-use Rattle.rac_nums.specs.declared.redo.Redo.{Redo}
-use Rattle.rac_nums.specs.declared.redo.RedoKind.TheVariants.{Change, Commit}
-use Rattle.rac_nums.specs.declared.value.Value.{Value}
+use Rattle.base_types.specs.declared.names.InstNo.{InstNo}
+use Rattle.base_types.specs.declared.names.RowNo.{RowNo}
+use Rattle.base_types.specs.declared.names.Xid.{Xid}
+use Rattle.redo_types.specs.declared.redo.Redo.{Redo}
+use Rattle.redo_types.specs.declared.redo.RedoKind.TheVariants.{Change, Commit}
+use Rattle.base_types.specs.declared.value.Value.{Value}
 use Rattle.rac_disk.specs.Calls.{HasRoom, WhereTold}
 use Rattle.rac_disk.specs.Disk.{DiskState, IsDisk, LogState, log_at, no_log, room_at, with_log}
 use Rattle.redo_record.specs.Redo.{IsRedo, length_of, redo_bytes}
 use Rattle.redo_record.proofs.RecordLemmas.{record_size}
 use Rattle.redo_thread.specs.Thread.{ThreadState, appended, end_of, forced}
-use Rattle.row_model.specs.declared.cause.Cause.TheVariants.{Lost}
-use Rattle.row_model.specs.declared.entry.Entry.{Entry}
-use Rattle.row_model.specs.declared.entry.Entry.TheVariants.{Acked, Changed, Committed, Ended, Marked, Opened, Refused, Rows, Started}
-use Rattle.row_model.specs.Good.{listed}
+use Rattle.journal.specs.declared.cause.Cause.TheVariants.{Lost}
+use Rattle.journal.specs.declared.entry.Entry.{Entry}
+use Rattle.journal.specs.declared.entry.Entry.TheVariants.{Acked, Changed, Committed, Ended, Marked, Opened, Refused, Rows, Started}
+use Rattle.journal.specs.Good.{listed}
 use Rattle.plain_node.specs.declared.engine.Engine.{Engine}
 use Rattle.plain_node.specs.declared.node.Node.{Node}
 use Rattle.plain_node.specs.Engine.{Ends, MadeRoom, next_commit}

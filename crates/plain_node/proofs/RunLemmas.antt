@@ -2,23 +2,23 @@
 use Rattle.std.proofs.Common.{◌≡◌, ◌∙◌, ℕ, ◌+◌, ◌<◌, ◌≤◌, List, [], ◌∷◌, ◌++◌, Option, Some, None, MatchOption, Result, Ok, Err, length, reverse, refl, ap, arith}
 use Rattle.std.specs.Prelude.{IfSome, OnOk}
 use Rattle.std.proofs.lemmas.List.Elements.{All-nil, All-push}
-use Rattle.row_model.specs.Good.{changes_in}
-use Rattle.row_model.specs.History.{history}
-use Rattle.row_model.specs.Sees.{own_changes}
+use Rattle.journal.specs.Good.{changes_in}
+use Rattle.journal.specs.History.{history}
+use Rattle.journal.specs.Sees.{own_changes}
 use Rattle.script_text.specs.declared.item.Item.{Item}
 use Rattle.script_text.specs.Asked.{asked}
 use Rattle.script_text.specs.ScriptParts.{ScriptParts}
 use Rattle.plain_node.specs.Lined.{IsRight}
 use Rattle.plain_node.specs.Lost.{IsGoodSoFar}
 use Rattle.plain_node.proofs.ProperLemmas.{Replays-older}
-use Rattle.rac_nums.specs.declared.names.Scn.{Scn}
-use Rattle.row_model.specs.declared.entry.Entry.{Entry}
-use Rattle.row_model.specs.declared.entry.Entry.TheVariants.{Acked, Committed, Marked, Plain, Started}
+use Rattle.base_types.specs.declared.names.Scn.{Scn}
+use Rattle.journal.specs.declared.entry.Entry.{Entry}
+use Rattle.journal.specs.declared.entry.Entry.TheVariants.{Acked, Committed, Marked, Plain, Started}
 use Rattle.script_text.specs.Lines.{session_in}
 use Rattle.plain_node.specs.Runs.{IsNamed, IsProper, IsSound}
-use Rattle.rac_nums.specs.declared.names.RowNo.{RowNo}
-use Rattle.rac_nums.specs.declared.names.Xid.{Xid}
-use Rattle.rac_nums.specs.declared.value.Value.{Value}
+use Rattle.base_types.specs.declared.names.RowNo.{RowNo}
+use Rattle.base_types.specs.declared.names.Xid.{Xid}
+use Rattle.base_types.specs.declared.value.Value.{Value}
 use Rattle.plain_node.specs.declared.node.Node.{Node}
 use Rattle.plain_node.specs.Slots.{IsLeastUsed, next_xid}
 use Rattle.plain_node.specs.Steps.{Puts, begun, commit_of, committed, started}

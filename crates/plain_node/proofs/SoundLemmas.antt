@@ -5,20 +5,20 @@ use Rattle.std.proofs.lemmas.Bool.{eq-eqb}
 use Rattle.std.proofs.lemmas.Bool.Decides.{eqb_tells}
 use Rattle.std.proofs.Common.{◌⊎◌, inl, inr}
 use Rattle.std.proofs.lemmas.List.{get_or-set_same, get_or-set_other}
-use Rattle.rac_nums.specs.declared.names.Xid.{Xid}
-use Rattle.rac_nums.specs.declared.names.RowNo.{RowNo}
-use Rattle.rac_nums.specs.declared.names.Scn.{Scn}
-use Rattle.rac_nums.specs.declared.names.InstNo.{InstNo}
-use Rattle.rac_nums.specs.declared.value.Value.{Value}
-use Rattle.rac_nums.specs.declared.value.Value.TheVariants.{Absent}
-use Rattle.row_model.specs.declared.entry.Entry.TheVariants.{Opened, Started, Rows, Changed, Marked, Committed, Acked, Plain}
-use Rattle.row_model.specs.Past.{Past, Each, start_of, same_xid}
-use Rattle.row_model.specs.Standing.{Change, Changes, changes_of, standing, is_open}
-use Rattle.row_model.specs.History.{Commit, history_of_past, changes_up_to, value_by}
-use Rattle.row_model.specs.Sees.{own, own_changes, last_of}
-use Rattle.row_model.specs.Good.{Range, listed_before, RowsAreSeen, FoundIsSeen}
-use Rattle.row_model.proofs.XidLemmas.{same_xid-refl, same_xid-true}
-use Rattle.row_model.proofs.HistoryLemmas.{UpTo, UpTo-le, entered-latest, changes_up_to-latest, EachRows-same, EachFound-same}
+use Rattle.base_types.specs.declared.names.Xid.{Xid}
+use Rattle.base_types.specs.declared.names.RowNo.{RowNo}
+use Rattle.base_types.specs.declared.names.Scn.{Scn}
+use Rattle.base_types.specs.declared.names.InstNo.{InstNo}
+use Rattle.base_types.specs.declared.value.Value.{Value}
+use Rattle.base_types.specs.declared.value.Value.TheVariants.{Absent}
+use Rattle.journal.specs.declared.entry.Entry.TheVariants.{Opened, Started, Rows, Changed, Marked, Committed, Acked, Plain}
+use Rattle.journal.specs.Past.{Past, Each, start_of, same_xid}
+use Rattle.journal.specs.Standing.{Change, Changes, changes_of, standing, is_open}
+use Rattle.journal.specs.History.{Commit, history_of_past, changes_up_to, value_by}
+use Rattle.journal.specs.Sees.{own, own_changes, last_of}
+use Rattle.journal.specs.Good.{Range, listed_before, RowsAreSeen, FoundIsSeen}
+use Rattle.journal.proofs.XidLemmas.{same_xid-refl, same_xid-true}
+use Rattle.journal.proofs.HistoryLemmas.{UpTo, UpTo-le, entered-latest, changes_up_to-latest, EachRows-same, EachFound-same}
 use Rattle.plain_node.specs.declared.slots.SlotUse.{SlotUse}
 use Rattle.plain_node.specs.declared.versions.Pending.{Pending}
 use Rattle.plain_node.specs.declared.versions.Version.{Version}

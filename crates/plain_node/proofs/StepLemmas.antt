@@ -3,16 +3,16 @@ use Rattle.std.proofs.Common.{◌≡◌, ◌∙◌, ◌≢◌, ℕ, ◌+◌, ◌
 use Rattle.std.specs.Option.{option_map_or}
 use Rattle.std.proofs.lemmas.List.{reverse-append, map-append, get_or-set_same, get_or-set_other}
 use Rattle.std.proofs.lemmas.Bool.Decides.{eqb_tells}
-use Rattle.rac_nums.specs.declared.names.Xid.{Xid}
-use Rattle.rac_nums.specs.declared.names.RowNo.{RowNo}
-use Rattle.rac_nums.specs.declared.names.Scn.{Scn}
-use Rattle.rac_nums.specs.declared.value.Value.{Value}
-use Rattle.row_model.specs.declared.entry.Entry.{Entry}
-use Rattle.row_model.specs.declared.entry.Entry.TheVariants.{Opened, Started, Changed, Marked, Committed, Acked, Plain}
-use Rattle.row_model.specs.Past.{start_of}
-use Rattle.row_model.specs.Standing.{changes_of, standing}
-use Rattle.row_model.specs.Sees.{own, own_changes}
-use Rattle.row_model.specs.Good.{Range}
+use Rattle.base_types.specs.declared.names.Xid.{Xid}
+use Rattle.base_types.specs.declared.names.RowNo.{RowNo}
+use Rattle.base_types.specs.declared.names.Scn.{Scn}
+use Rattle.base_types.specs.declared.value.Value.{Value}
+use Rattle.journal.specs.declared.entry.Entry.{Entry}
+use Rattle.journal.specs.declared.entry.Entry.TheVariants.{Opened, Started, Changed, Marked, Committed, Acked, Plain}
+use Rattle.journal.specs.Past.{start_of}
+use Rattle.journal.specs.Standing.{changes_of, standing}
+use Rattle.journal.specs.Sees.{own, own_changes}
+use Rattle.journal.specs.Good.{Range}
 use Rattle.plain_node.specs.declared.node.Node.{Node}
 use Rattle.plain_node.specs.declared.slots.SlotUse.{SlotUse}
 use Rattle.plain_node.specs.declared.versions.Pending.{Pending}
@@ -20,10 +20,10 @@ use Rattle.plain_node.specs.declared.versions.Version.{Version}
 use Rattle.plain_node.specs.Slots.{wrap_at, never, next_xid, IsLeastUsed}
 use Rattle.plain_node.specs.Steps.{told, opened, started, got, value_in, begun, changed, Puts, version_at, ended_by, commit_of, committed}
 use Rattle.plain_node.specs.Sound.{Sound, Proper, parts_of, as_pending}
-use Rattle.row_model.specs.Stood.{stood, is_commit}
-use Rattle.row_model.specs.Past.{Past}
-use Rattle.row_model.specs.Standing.{is_open}
-use Rattle.rac_nums.specs.declared.names.InstNo.{InstNo}
+use Rattle.journal.specs.Stood.{stood, is_commit}
+use Rattle.journal.specs.Past.{Past}
+use Rattle.journal.specs.Standing.{is_open}
+use Rattle.base_types.specs.declared.names.InstNo.{InstNo}
 use Rattle.plain_node.proofs.ProperLemmas.{Proper-opened, Proper-started, Proper-rows, Proper-plain, Proper-changed, Proper-committed}
 use Rattle.plain_node.specs.Runs.{IsSound, IsProper}
 use Rattle.plain_node.proofs.SoundLemmas.{Sound-plain, Sound-started, start_of-told, Sound-rows, changed as Sound-changed, Sound-committed, wrap_at-ended, own_changes-own}

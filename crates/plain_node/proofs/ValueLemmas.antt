@@ -2,9 +2,9 @@
 use Rattle.std.proofs.Common.{◌≡◌, ℕ, List, [], ◌∷◌, ◌++◌, Bool, true, false, cond, ◌&&◌, ◌==◌, nat_le, Some, unwrap_or, map, refl}
 use Rattle.std.specs.Option.{option_map}
 use Rattle.std.specs.List.{find}
-use Rattle.rac_nums.specs.declared.value.Value.TheVariants.{Absent}
-use Rattle.row_model.specs.Standing.{Change}
-use Rattle.row_model.specs.History.{Commit, changes_up_to, value_by}
+use Rattle.base_types.specs.declared.value.Value.TheVariants.{Absent}
+use Rattle.journal.specs.Standing.{Change}
+use Rattle.journal.specs.History.{Commit, changes_up_to, value_by}
 use Rattle.plain_node.specs.declared.versions.Pending.{Pending}
 use Rattle.plain_node.specs.declared.versions.Version.{Version}
 use Rattle.plain_node.specs.Versions.{pending_value, ended_value}

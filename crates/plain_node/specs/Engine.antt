@@ -1,21 +1,21 @@
 -- The node with its redo thread, over a disk.
 use Rattle.std.specs.Prelude.{◌≡◌, ℕ, ◌+◌, ◌*◌, ◌-◌, ◌^◌, ◌<◌, ◌≤◌, ◌⊎◌, List, [], ◌∷◌, ◌++◌, length, map, reverse, take, Option, IsSomeAnd, Some}
 use Rattle.std.specs.List.{AllByRecursion}
-use Rattle.rac_nums.specs.declared.redo.Redo.{Redo}
+use Rattle.redo_types.specs.declared.redo.Redo.{Redo}
 use Rattle.rac_io.specs.Counts.{Rose}
 use Rattle.rac_disk.specs.Calls.{WhereTold}
 use Rattle.rac_disk.specs.Disk.{DiskState, log_at, with_log}
 use Rattle.redo_record.specs.Redo.{IsRedo}
 use Rattle.redo_record.specs.Front.{IsTorn, log_bytes}
 use Rattle.redo_thread.specs.Thread.{ThreadState, appended, end_of, forced}
-use Rattle.rac_nums.specs.declared.names.Xid.{Xid}
+use Rattle.base_types.specs.declared.names.Xid.{Xid}
 use Rattle.plain_redo.specs.Records.{commit_record}
 use Rattle.plain_node.specs.declared.node.Node.{Node}
 use Rattle.plain_node.specs.Lost.{entered, marked}
 use Rattle.plain_node.specs.Steps.{ended_by, started}
-use Rattle.log_table.specs.LogHistory.{log_history}
-use Rattle.row_model.specs.declared.entry.Entry.{Entry}
-use Rattle.row_model.specs.History.{history}
+use Rattle.log_history.specs.LogHistory.{log_history}
+use Rattle.journal.specs.declared.entry.Entry.{Entry}
+use Rattle.journal.specs.History.{history}
 use Rattle.script_text.specs.declared.item.Item.{Item}
 use Rattle.script_text.specs.declared.item.Item.TheVariants as items
 use Rattle.script_text.specs.declared.item.Stmt.TheVariants as statements

@@ -1,7 +1,7 @@
 -- What the lines that were run have to do with the journal so far.
 use Rattle.std.specs.Prelude.{◌≡◌, ℕ, ◌<◌, ◌≤◌, List, [], ◌∷◌, ◌++◌, reverse, length, Some, false}
-use Rattle.rac_nums.specs.declared.names.Xid.{Xid}
-use Rattle.row_model.specs.Past.{Past, Each}
+use Rattle.base_types.specs.declared.names.Xid.{Xid}
+use Rattle.journal.specs.Past.{Past, Each}
 use Rattle.script_text.specs.declared.item.Item.{Item}
 use Rattle.script_text.specs.declared.item.Item.TheVariants.{Session}
 use Rattle.script_text.specs.declared.item.Item.TheVariants.{Stmt as Statement}

@@ -1,16 +1,16 @@
 -- What the redo records that the node made have to do with its state and its journal.
 use Rattle.std.specs.Prelude.{◌≡◌, ◌<◌, List, [], ◌++◌, reverse, map, false, IfSome, Some}
 use Rattle.std.specs.List.{filter_map, AllByRecursion}
-use Rattle.rac_nums.specs.declared.names.RowNo.{RowNo}
-use Rattle.rac_nums.specs.declared.names.Xid.{Xid}
-use Rattle.rac_nums.specs.declared.redo.Redo.{Redo}
-use Rattle.rac_nums.specs.declared.value.Value.{Value}
+use Rattle.base_types.specs.declared.names.RowNo.{RowNo}
+use Rattle.base_types.specs.declared.names.Xid.{Xid}
+use Rattle.redo_types.specs.declared.redo.Redo.{Redo}
+use Rattle.base_types.specs.declared.value.Value.{Value}
 use Rattle.redo_record.specs.Redo.{IsRedo}
-use Rattle.log_table.specs.declared.line.HistoryLine.{HistoryLine}
-use Rattle.log_table.specs.LogHistory.{changes_in, is_commit, is_step_back, line_of}
-use Rattle.row_model.specs.History.{Commit, history_of_past}
-use Rattle.row_model.specs.Past.{Past}
-use Rattle.row_model.specs.Standing.{Change}
+use Rattle.log_history.specs.declared.line.HistoryLine.{HistoryLine}
+use Rattle.log_history.specs.LogHistory.{changes_in, is_commit, is_step_back, line_of}
+use Rattle.journal.specs.History.{Commit, history_of_past}
+use Rattle.journal.specs.Past.{Past}
+use Rattle.journal.specs.Standing.{Change}
 use Rattle.plain_node.specs.declared.versions.Pending.{Pending}
 use Rattle.plain_node.specs.Slots.{wrap_at}
 use Rattle.plain_node.specs.Sound.{Parts}

@@ -1,10 +1,10 @@
 -- What is left of the node where a fault of the disk ended it in a statement.
 use Rattle.std.specs.Prelude.{ℕ, ◌+◌, ◌<◌, List, [], ◌∷◌, ◌++◌, length, reverse, All, IfSome, false, ◌≡◌}
-use Rattle.rac_nums.specs.declared.names.Xid.{Xid}
-use Rattle.row_model.specs.declared.cause.Cause.TheVariants.{Lost}
-use Rattle.row_model.specs.declared.entry.Entry.{Entry}
-use Rattle.row_model.specs.declared.entry.Entry.TheVariants.{Committed, Ended, Marked, Refused}
-use Rattle.row_model.specs.Good.{GoodRows, GoodFound, GoodCommits, GoodAcknowledgements, GoodStarts, GoodRowLocks, GoodReplay}
+use Rattle.base_types.specs.declared.names.Xid.{Xid}
+use Rattle.journal.specs.declared.cause.Cause.TheVariants.{Lost}
+use Rattle.journal.specs.declared.entry.Entry.{Entry}
+use Rattle.journal.specs.declared.entry.Entry.TheVariants.{Committed, Ended, Marked, Refused}
+use Rattle.journal.specs.Good.{GoodRows, GoodFound, GoodCommits, GoodAcknowledgements, GoodStarts, GoodRowLocks, GoodReplay}
 use Rattle.script_text.specs.Asked.{asked}
 use Rattle.script_text.specs.GoodLines.{GoodLines}
 use Rattle.script_text.specs.Lines.{session_in}

@@ -2,7 +2,7 @@
 use Rattle.std.specs.Prelude.{◌≡◌, ◌≤◌, ◌⊎◌, ℕ, List, [], length, reverse, if◌then◌else◌, true, false, Option, IsSomeAnd}
 use Rattle.rac_io.specs.Counts.{Rose}
 use Rattle.rac_disk.specs.Disk.{DiskState}
-use Rattle.row_model.specs.declared.entry.Entry.{Entry}
+use Rattle.journal.specs.declared.entry.Entry.{Entry}
 use Rattle.script_text.specs.GoodLines.{AllAnswered}
 use Rattle.script_text.specs.ScriptParts.{ScriptParts}
 use Rattle.plain_node.specs.declared.run.Ran.{Ran}

@@ -2,11 +2,11 @@
 use Rattle.std.specs.Prelude.{◌≡◌, ℕ, List, length, Option, IsSomeAnd}
 use Rattle.std.specs.List.{sum_by}
 use Rattle.rac_disk.specs.Disk.{DiskState, log_at, room_at}
-use Rattle.rac_nums.specs.declared.redo.RedoKind.TheVariants.{Change, Commit}
+use Rattle.redo_types.specs.declared.redo.RedoKind.TheVariants.{Change, Commit}
 use Rattle.redo_record.specs.Redo.{length_of}
 use Rattle.redo_thread.specs.Thread.{ThreadState, end_of}
-use Rattle.row_model.specs.declared.entry.Entry.{Entry}
-use Rattle.row_model.specs.declared.entry.Entry.TheVariants.{Changed, Marked}
+use Rattle.journal.specs.declared.entry.Entry.{Entry}
+use Rattle.journal.specs.declared.entry.Entry.TheVariants.{Changed, Marked}
 use Rattle.plain_node.specs.declared.engine.Engine.{Engine}
 
 -- How many bytes of redo an entry stands for: a change for a Change record of 236 bytes, the mark of a commit for a

@@ -2,7 +2,7 @@
 use Rattle.std.specs.Prelude.{◌≡◌, ℕ, ◌^◌, ◌<◌, ◌≤◌, List, [], ◌∷◌, length, reverse}
 use Rattle.std.specs.Prelude.{Bool, true, false, IfSome, is_some, Option, All}
 use Rattle.script_text.specs.Lines.{session_in}
-use Rattle.row_model.specs.Good.{Range}
+use Rattle.journal.specs.Good.{Range}
 use Rattle.script_text.specs.declared.item.Item.{Item}
 use Rattle.script_text.specs.declared.item.Item.TheVariants.{Session, Stmt as StmtItem}
 use Rattle.script_text.specs.WellFormed.{HasRowsBelow, IsReadStmt}

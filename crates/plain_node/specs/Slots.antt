@@ -1,6 +1,6 @@
 -- What the transaction slots say.
 use Rattle.std.specs.Prelude.{ℕ, ◌+◌, ◌<◌, ◌≤◌, List, length, slice_index_or}
-use Rattle.rac_nums.specs.declared.names.Xid.{Xid}
+use Rattle.base_types.specs.declared.names.Xid.{Xid}
 use Rattle.plain_node.specs.declared.slots.SlotUse.{SlotUse}
 
 -- a slot that was never used

@@ -1,16 +1,16 @@
 -- What the node's state has to do with the journal so far: the invariant of the run.
 use Rattle.std.specs.Prelude.{◌≡◌, ℕ, ◌<◌, ◌≤◌, List, [], ◌∷◌, ◌++◌, reverse, map, Option, Some, IfSome, true, false}
 use Rattle.std.specs.Option.{option_map}
-use Rattle.rac_nums.specs.declared.names.Xid.{Xid}
-use Rattle.rac_nums.specs.declared.names.InstNo.{InstNo}
-use Rattle.row_model.specs.Past.{Past, Each, home_of, is_up}
-use Rattle.row_model.specs.Standing.{Change, standing, is_open}
-use Rattle.row_model.specs.Stood.{stood, is_commit, is_commit_by, acked_up_to, came_up}
-use Rattle.row_model.specs.History.{Commit, history_of_past}
-use Rattle.row_model.specs.Sees.{own, own_changes}
-use Rattle.row_model.specs.Good.{Range, RowsAreSeen, FoundIsSeen, CommitIsProper}
-use Rattle.row_model.specs.Good.{AckIsProper, StartIsProper, RowIsFree, changes_in, Replays}
-use Rattle.row_model.proofs.HistoryLemmas.{UpTo, latest_start}
+use Rattle.base_types.specs.declared.names.Xid.{Xid}
+use Rattle.base_types.specs.declared.names.InstNo.{InstNo}
+use Rattle.journal.specs.Past.{Past, Each, home_of, is_up}
+use Rattle.journal.specs.Standing.{Change, standing, is_open}
+use Rattle.journal.specs.Stood.{stood, is_commit, is_commit_by, acked_up_to, came_up}
+use Rattle.journal.specs.History.{Commit, history_of_past}
+use Rattle.journal.specs.Sees.{own, own_changes}
+use Rattle.journal.specs.Good.{Range, RowsAreSeen, FoundIsSeen, CommitIsProper}
+use Rattle.journal.specs.Good.{AckIsProper, StartIsProper, RowIsFree, changes_in, Replays}
+use Rattle.journal.proofs.HistoryLemmas.{UpTo, latest_start}
 use Rattle.plain_node.specs.declared.node.Node.{Node}
 use Rattle.plain_node.specs.declared.slots.SlotUse.{SlotUse}
 use Rattle.plain_node.specs.declared.versions.Pending.{Pending}

@@ -1,16 +1,16 @@
 -- What each statement leaves of the node.
 use Rattle.std.specs.Prelude.{◌≡◌, ℕ, slice_index_or, MatchOption, ◌+◌, [], ◌∷◌, ◌++◌}
 use Rattle.std.specs.Prelude.{reverse, Option, Some, None, unwrap_or, map, slice_set}
-use Rattle.rac_nums.specs.declared.names.RowNo.{RowNo}
-use Rattle.rac_nums.specs.declared.names.Scn.{Scn}
-use Rattle.rac_nums.specs.declared.names.Xid.{Xid}
-use Rattle.rac_nums.specs.declared.names.InstNo.{InstNo}
-use Rattle.rac_nums.specs.declared.value.Value.{Value}
-use Rattle.rac_nums.specs.declared.value.Value.TheVariants.{Absent}
-use Rattle.row_model.specs.declared.entry.Entry.{Entry}
-use Rattle.row_model.specs.declared.entry.Entry.TheVariants.{Opened, Started, Rows, Changed}
-use Rattle.row_model.specs.declared.entry.Entry.TheVariants.{Marked, Committed, Acked, Plain}
-use Rattle.row_model.specs.Good.{listed}
+use Rattle.base_types.specs.declared.names.RowNo.{RowNo}
+use Rattle.base_types.specs.declared.names.Scn.{Scn}
+use Rattle.base_types.specs.declared.names.Xid.{Xid}
+use Rattle.base_types.specs.declared.names.InstNo.{InstNo}
+use Rattle.base_types.specs.declared.value.Value.{Value}
+use Rattle.base_types.specs.declared.value.Value.TheVariants.{Absent}
+use Rattle.journal.specs.declared.entry.Entry.{Entry}
+use Rattle.journal.specs.declared.entry.Entry.TheVariants.{Opened, Started, Rows, Changed}
+use Rattle.journal.specs.declared.entry.Entry.TheVariants.{Marked, Committed, Acked, Plain}
+use Rattle.journal.specs.Good.{listed}
 use Rattle.plain_node.specs.declared.node.Node.{Node}
 use Rattle.plain_node.specs.declared.versions.Pending.{Pending}
 use Rattle.plain_node.specs.declared.versions.Version.{Version}

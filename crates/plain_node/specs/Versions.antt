@@ -1,7 +1,7 @@
 -- What the newest of some versions puts into a row.
 use Rattle.std.specs.Prelude.{ℕ, List, Option, ◌==◌, ◌&&◌, nat_le, find}
 use Rattle.std.specs.Option.{option_map}
-use Rattle.rac_nums.specs.declared.value.Value.{Value}
+use Rattle.base_types.specs.declared.value.Value.{Value}
 use Rattle.plain_node.specs.declared.versions.Pending.{Pending}
 use Rattle.plain_node.specs.declared.versions.Version.{Version}
 

@@ -3,7 +3,7 @@ ghost use Rattle.rac_io.specs.Counts.{Rose};
 ghost use Rattle.rac_disk.specs.Calls.{HasRoom, WhereTold};
 ghost use Rattle.redo_record.specs.Redo.{IsRedo, IsXid, length_of, redo_bytes};
 ghost use Rattle.redo_thread.specs.Thread.{ThreadState, appended, end_of, forced};
-ghost use Rattle.row_model.specs.Good.{Range};
+ghost use Rattle.journal.specs.Good.{Range};
 ghost use Rattle.plain_node.specs.Engine.{Ends, EndsCut, IsCutEnd, EntersIfWhole, FailedOnce, IsCalm, IsCutCommit, IsKept, IsOneFault, LogsTell, MadeRoom, MaySave};
 ghost use Rattle.plain_node.specs.RedoSize.{IsMeasured, redo_size};
 ghost use Rattle.plain_node.specs.Runs.{Fits, IsProper, IsSound};
@@ -14,7 +14,8 @@ ghost use Rattle.plain_node.specs.Slots.{wrap_at};
 use crate::node::Node;
 use plain_redo::{change_record, commit_record};
 use rac_disk::{Failed, SharedDisk};
-use rac_nums::{InstNo, NoMemory, Redo, RedoAt, RowNo, Value, Xid};
+use base_types::{InstNo, NoMemory, RedoAt, RowNo, Value, Xid};
+use redo_types::Redo;
 use redo_thread::RedoThread;
 use std::alloc::Global;
 

@@ -1,18 +1,18 @@
 ghost use Rattle.std.specs.Prelude.{Option, None};
-ghost use Rattle.row_model.specs.Good.{Range};
+ghost use Rattle.journal.specs.Good.{Range};
 ghost use Rattle.plain_node.specs.Lost.{entered, lost, marked};
 ghost use Rattle.plain_node.specs.Runs.{Fits, IsSound, IsProper};
 ghost use Rattle.std.specs.Prelude.{◌≡◌, ℕ, ◌+◌, ◌^◌, ◌<◌, ◌≤◌, length, IsOkAnd, IfOk, OnOk, IsNone, MatchOption, Some, None, reverse};
 ghost use Rattle.std.specs.Prelude.{[]};
-ghost use Rattle.row_model.specs.Good.{listed_before};
+ghost use Rattle.journal.specs.Good.{listed_before};
 ghost use Rattle.std.specs.Prelude.{◌∷◌, ◌++◌, map, IfSome};
 ghost use Rattle.plain_node.specs.Slots.{wrap_at, IsLeastUsed, next_xid};
 ghost use Rattle.plain_node.specs.Steps.{value_in, told, opened, started, got, begun, changed, IsOwn, version_at, finished};
 
 use crate::slots::{SlotUse, least_used};
 use crate::versions::{Pending, Version, newest_ended, newest_pending};
-use rac_nums::{InstNo, NoMemory, RowNo, Scn, Sequence, Value, Xid};
-use row_model::{Cause, Entry, Journal, RowList};
+use base_types::{InstNo, NoMemory, RowNo, Scn, Sequence, Value, Xid};
+use journal::{Cause, Entry, Journal, RowList};
 use std::alloc::Global;
 
 /// The one instance, what its one session has open, and the journal so far.

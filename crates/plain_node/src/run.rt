@@ -1,7 +1,7 @@
 ghost use Rattle.std.specs.Prelude.{◌≡◌, ◌≢◌, ◌<◌, ◌≤◌, ◌⊎◌, ℕ, List, [], ◌∷◌, ◌++◌, Option, None, true, false, IfOk, IfSome, IsErrOf, IsSomeAnd, OnOk, length};
 ghost use Rattle.rac_disk.specs.Disk.{room_at};
 ghost use Rattle.rac_io.specs.Counts.{Rose};
-ghost use Rattle.row_model.specs.Good.{Range};
+ghost use Rattle.journal.specs.Good.{Range};
 ghost use Rattle.script_text.specs.declared.item.Item.{Item};
 ghost use Rattle.script_text.specs.ScriptParts.{ScriptParts};
 ghost use Rattle.script_text.specs.Reading.{joined, items_of};
@@ -16,8 +16,8 @@ ghost use Rattle.plain_node.specs.Runs.{CanRun, IsSound, IsProper, IsNamed};
 
 use crate::engine::{Engine, Stop};
 use rac_disk::SharedDisk;
-use rac_nums::NoMemory;
-use row_model::Journal;
+use base_types::NoMemory;
+use journal::Journal;
 use script_text::{Item, Script, Stmt, Wave, Waves};
 use std::alloc::Global;
 

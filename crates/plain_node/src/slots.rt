@@ -1,7 +1,7 @@
 ghost use Rattle.std.specs.Prelude.{◌≡◌, ℕ, ◌<◌, ◌≤◌, length};
 ghost use Rattle.plain_node.specs.Slots.{end_at};
 
-use rac_nums::Scn;
+use base_types::Scn;
 
 /// How a transaction slot was used: how often it was taken, and the SCN at which its last transaction ended,
 /// 0 where it was never used.

@@ -2,7 +2,7 @@ ghost use Rattle.std.specs.Prelude.{◌≡◌, ◌==◌, ◌&&◌, nat_le, rever
 ghost use Rattle.std.specs.Option.{option_map};
 ghost use Rattle.plain_node.specs.Versions.{pending_value, ended_value};
 
-use rac_nums::{RowNo, Scn, Value};
+use base_types::{RowNo, Scn, Value};
 
 /// What a row got by a change of a transaction that is open.
 #[derive(Clone, Copy, Debug, PartialEq, Eq)]

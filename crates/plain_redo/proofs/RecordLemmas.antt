@@ -4,12 +4,12 @@ use Rattle.std.proofs.Math.Nat.{mod-lt, div-lt_iff_lt-mul}
 use Rattle.std.proofs.Math.Facts.{Fits-of_z}
 use Rattle.std.proofs.Math.Dec.{leb}
 use Rattle.std.proofs.lemmas.Bool.Decides.{leb_tells}
-use Rattle.rac_nums.specs.declared.names.RowNo.{RowNo}
-use Rattle.rac_nums.specs.declared.names.Scn.{Scn}
-use Rattle.rac_nums.specs.declared.names.Xid.{Xid}
-use Rattle.rac_nums.specs.declared.undo.TxnSlot.{TxnSlot}
-use Rattle.rac_nums.specs.declared.value.Value.{Value}
-use Rattle.rac_nums.specs.declared.value.Value.TheVariants.{Absent, Num}
+use Rattle.base_types.specs.declared.names.RowNo.{RowNo}
+use Rattle.base_types.specs.declared.names.Scn.{Scn}
+use Rattle.base_types.specs.declared.names.Xid.{Xid}
+use Rattle.redo_types.specs.declared.undo.TxnSlot.{TxnSlot}
+use Rattle.base_types.specs.declared.value.Value.{Value}
+use Rattle.base_types.specs.declared.value.Value.TheVariants.{Absent, Num}
 use Rattle.part_image.specs.Slots.{IsItl, IsValue, bits_of, flag_of, unused_itl}
 use Rattle.part_image.specs.Undo.{IsTxnSlot, IsUndoRecord, NamesEndBefore}
 use Rattle.part_image.proofs.CellLemmas.{AllFit-append}

@@ -1,19 +1,19 @@
 -- The redo records of the plain engine. It has no blocks yet: what a record says of blocks, versions and undo follows
 -- from its SCN alone.
 use Rattle.std.specs.Prelude.{ℕ, ◌+◌, ◌-◌, ◌/◌, ◌%◌, nat_le, if◌then◌else◌, true, false, Some, None}
-use Rattle.rac_nums.specs.declared.blocks.ItlSlot.{ItlSlot}
-use Rattle.rac_nums.specs.declared.names.RowNo.{RowNo}
-use Rattle.rac_nums.specs.declared.names.Scn.{Scn}
-use Rattle.rac_nums.specs.declared.names.Xid.{Xid}
-use Rattle.rac_nums.specs.declared.redo.DataChange.{DataChange}
-use Rattle.rac_nums.specs.declared.redo.HeadChange.{HeadChange}
-use Rattle.rac_nums.specs.declared.redo.Redo.{Redo}
-use Rattle.rac_nums.specs.declared.redo.RedoKind.TheVariants.{Change, Commit}
-use Rattle.rac_nums.specs.declared.redo.UndoChange.{UndoChange}
-use Rattle.rac_nums.specs.declared.undo.TxnSlot.{TxnSlot}
-use Rattle.rac_nums.specs.declared.undo.TxnState.TheVariants.{Active, Committed}
-use Rattle.rac_nums.specs.declared.undo.UndoRecord.{UndoRecord}
-use Rattle.rac_nums.specs.declared.value.Value.{Value}
+use Rattle.redo_types.specs.declared.blocks.ItlSlot.{ItlSlot}
+use Rattle.base_types.specs.declared.names.RowNo.{RowNo}
+use Rattle.base_types.specs.declared.names.Scn.{Scn}
+use Rattle.base_types.specs.declared.names.Xid.{Xid}
+use Rattle.redo_types.specs.declared.redo.DataChange.{DataChange}
+use Rattle.redo_types.specs.declared.redo.HeadChange.{HeadChange}
+use Rattle.redo_types.specs.declared.redo.Redo.{Redo}
+use Rattle.redo_types.specs.declared.redo.RedoKind.TheVariants.{Change, Commit}
+use Rattle.redo_types.specs.declared.redo.UndoChange.{UndoChange}
+use Rattle.redo_types.specs.declared.undo.TxnSlot.{TxnSlot}
+use Rattle.redo_types.specs.declared.undo.TxnState.TheVariants.{Active, Committed}
+use Rattle.redo_types.specs.declared.undo.UndoRecord.{UndoRecord}
+use Rattle.base_types.specs.declared.value.Value.{Value}
 use Rattle.part_image.specs.Slots.{unused_itl}
 
 -- an end before the transaction's own, where it isn't the first of its slot

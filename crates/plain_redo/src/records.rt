@@ -3,10 +3,8 @@ ghost use Rattle.part_image.specs.Slots.{IsValue};
 ghost use Rattle.redo_record.specs.Redo.{IsRedo, IsXid};
 ghost use Rattle.plain_redo.specs.Records.{change_record, commit_record, data_of, end_before, ended_slot, head_of, open_slot, undo_of};
 
-use rac_nums::{
-    BlockNo, DataChange, HeadChange, InstNo, ItlSlot, Redo, RedoKind, RowChange, RowNo, Scn,
-    TxnSlot, TxnState, UndoChange, UndoRecord, Value, Xid,
-};
+use base_types::{BlockNo, InstNo, RowNo, Scn, Value, Xid};
+use redo_types::{DataChange, HeadChange, ItlSlot, Redo, RedoKind, RowChange, TxnSlot, TxnState, UndoChange, UndoRecord};
 
 const UNUSED: ItlSlot = ItlSlot {
     xid: Xid {

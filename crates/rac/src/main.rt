@@ -13,7 +13,7 @@ use file_disk::FileDisk;
 use notes::note_line;
 use rac_disk::{MemDisk, SharedDisk};
 use rac_io::{StdSink, StdSource};
-use rac_nums::NoMemory;
+use base_types::NoMemory;
 use rac_top::{Exit, Note, rac};
 use std::process::ExitCode;
 use std::rt::Env;

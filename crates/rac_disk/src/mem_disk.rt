@@ -7,7 +7,7 @@ use crate::mem_blocks::MemBlocks;
 use crate::mem_log::MemLog;
 use crate::plan::{CallKind, CallLog, Planned};
 use crate::shared_disk::{Failed, SharedDisk};
-use rac_nums::{BlockNo, InstNo, NoMemory};
+use base_types::{BlockNo, InstNo, NoMemory};
 use std::alloc::Global;
 use std::marker::Model;
 

@@ -3,7 +3,7 @@ ghost use Rattle.rac_io.specs.Counts.{Counts, Rose};
 ghost use Rattle.rac_disk.specs.Disk.{DiskState};
 ghost use Rattle.rac_disk.specs.Calls.{WhereTold, ReadsBlock, WritesBlock, Appends, CutsLog, GivesLength, ReadsLog, ReadsControl, WritesControl, HasRoom, CountsAppend};
 
-use rac_nums::{BlockNo, InstNo};
+use base_types::{BlockNo, InstNo};
 
 /// A call of a disk failed.
 #[derive(Clone, Copy, Debug, PartialEq, Eq)]

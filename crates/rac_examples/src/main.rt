@@ -5,7 +5,7 @@ ghost use Rattle.std.specs.Prelude.{◌≡◌, IsTrue, ◌↔◌};
 
 use rac_disk::MemDisk;
 use rac_io::{MemSink, MemSource};
-use rac_nums::NoMemory;
+use base_types::NoMemory;
 use rac_top::{Exit, rac};
 use std::alloc::{AllocError, Global};
 use std::process::ExitCode;

@@ -1,9 +1,9 @@
 -- Logs of which an audit tells the history are none that no writer of records left.
 use Rattle.std.proofs.Common.{ℕ, zero, suc, List, [], ◌∷◌, Option, None, Some, IfSome, subst}
-use Rattle.rac_nums.specs.declared.redo.Redo.{Redo}
+use Rattle.redo_types.specs.declared.redo.Redo.{Redo}
 use Rattle.rac_disk.specs.Disk.{DiskState}
-use Rattle.log_table.specs.Logs.{AreLogs, IsEnd, IsFirstWrong}
-use Rattle.log_table.proofs.OneWay.{one_way}
+use Rattle.log_history.specs.Logs.{AreLogs, IsEnd, IsFirstWrong}
+use Rattle.log_history.proofs.OneWay.{one_way}
 use Rattle.log_audit.specs.Audits.{Tells, logs_in}
 use Rattle.rac_top.specs.Exits.{HasGoodLogs}
 

@@ -3,15 +3,15 @@ use Rattle.std.specs.Prelude.{◌≡◌, ℕ, ◌+◌, List, [], ◌∷◌, leng
 use Rattle.std.specs.Prelude.{not, if◌then◌else◌, Option, Some, None, IsSomeAnd, Contains, slice_index_or, is_none}
 use Rattle.std.specs.List.{list_any, list_all}
 use Rattle.std.specs.Option.{option_map_or}
-use Rattle.rac_nums.specs.declared.names.InstNo.{InstNo}
-use Rattle.rac_nums.specs.declared.names.Xid.{Xid}
-use Rattle.row_model.specs.declared.entry.Entry.{Entry}
-use Rattle.row_model.specs.declared.entry.Entry.TheVariants.{Marked, Undone, Rolled, Crashed}
-use Rattle.row_model.specs.declared.entry.Entry.TheVariants.{Up, Moved, Checkpointed, NotDone}
-use Rattle.row_model.specs.Past.{Past, Each, start_of, home_of, is_loss_of, is_up}
-use Rattle.row_model.specs.Standing.{standing}
-use Rattle.row_model.specs.Sees.{own}
-use Rattle.row_model.specs.Stood.{stood}
+use Rattle.base_types.specs.declared.names.InstNo.{InstNo}
+use Rattle.base_types.specs.declared.names.Xid.{Xid}
+use Rattle.journal.specs.declared.entry.Entry.{Entry}
+use Rattle.journal.specs.declared.entry.Entry.TheVariants.{Marked, Undone, Rolled, Crashed}
+use Rattle.journal.specs.declared.entry.Entry.TheVariants.{Up, Moved, Checkpointed, NotDone}
+use Rattle.journal.specs.Past.{Past, Each, start_of, home_of, is_loss_of, is_up}
+use Rattle.journal.specs.Standing.{standing}
+use Rattle.journal.specs.Sees.{own}
+use Rattle.journal.specs.Stood.{stood}
 use Rattle.script_text.specs.declared.item.Item.{Item}
 use Rattle.script_text.specs.declared.item.Item.TheVariants as items
 use Rattle.script_text.specs.declared.item.Stmt.{Stmt}

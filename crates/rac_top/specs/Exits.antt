@@ -5,11 +5,11 @@ use Rattle.std.specs.List.{list_any}
 use Rattle.rac_io.specs.Counts.{Rose}
 use Rattle.rac_io.specs.Write.{AppendsPart}
 use Rattle.rac_disk.specs.Disk.{DiskState}
-use Rattle.row_model.specs.declared.cause.Cause.TheVariants.{Lost}
-use Rattle.row_model.specs.declared.entry.Entry.{Entry}
+use Rattle.journal.specs.declared.cause.Cause.TheVariants.{Lost}
+use Rattle.journal.specs.declared.entry.Entry.{Entry}
 use Rattle.cli_words.specs.declared.order.Order.{Order}
 use Rattle.cli_words.specs.declared.order.Order.TheVariants.{Run, Audit}
-use Rattle.log_table.specs.Logs.{IsFirstWrong}
+use Rattle.log_history.specs.Logs.{IsFirstWrong}
 use Rattle.log_audit.specs.Audits.{Tells, logs_in}
 use Rattle.script_text.specs.ScriptParts.{ScriptParts}
 use Rattle.script_text.specs.Reading.{reading}

@@ -1,8 +1,8 @@
 -- A good journal of a run of a script.
 use Rattle.std.specs.Prelude.{◌≡◌, ℕ, List}
-use Rattle.row_model.specs.declared.entry.Entry.{Entry}
-use Rattle.row_model.specs.Good.{GoodRows, GoodFound, GoodCommits, GoodAcknowledgements}
-use Rattle.row_model.specs.Good.{GoodStarts, GoodRowLocks, GoodReplay}
+use Rattle.journal.specs.declared.entry.Entry.{Entry}
+use Rattle.journal.specs.Good.{GoodRows, GoodFound, GoodCommits, GoodAcknowledgements}
+use Rattle.journal.specs.Good.{GoodStarts, GoodRowLocks, GoodReplay}
 use Rattle.script_text.specs.ScriptParts.{ScriptParts}
 use Rattle.script_text.specs.Asked.{asked}
 use Rattle.script_text.specs.GoodLines.{GoodLines, AllAnswered}

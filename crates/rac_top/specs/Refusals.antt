@@ -5,17 +5,17 @@ use Rattle.std.specs.Prelude.{if◌then◌else◌, Option, Some, None, IfSome, I
 use Rattle.std.specs.List.{list_any, count_by}
 use Rattle.std.specs.Int.{w64}
 use Rattle.std.specs.Option.{option_map_or}
-use Rattle.rac_nums.specs.declared.names.RowNo.{RowNo}
-use Rattle.rac_nums.specs.declared.names.Xid.{Xid}
-use Rattle.row_model.specs.declared.cause.Cause.{Cause}
-use Rattle.row_model.specs.declared.cause.Cause.TheVariants as causes
-use Rattle.row_model.specs.declared.entry.Entry.{Entry}
-use Rattle.row_model.specs.declared.entry.Entry.TheVariants.{Started, Changed, Locked, Refused}
-use Rattle.row_model.specs.Past.{Past, Each, same_xid, start_of, home_of, is_loss_of, is_up}
-use Rattle.row_model.specs.Standing.{row_of, standing, is_open, holds}
-use Rattle.row_model.specs.History.{Commit, history}
-use Rattle.row_model.specs.Sees.{own, sees}
-use Rattle.row_model.specs.Stood.{stood, came_up}
+use Rattle.base_types.specs.declared.names.RowNo.{RowNo}
+use Rattle.base_types.specs.declared.names.Xid.{Xid}
+use Rattle.journal.specs.declared.cause.Cause.{Cause}
+use Rattle.journal.specs.declared.cause.Cause.TheVariants as causes
+use Rattle.journal.specs.declared.entry.Entry.{Entry}
+use Rattle.journal.specs.declared.entry.Entry.TheVariants.{Started, Changed, Locked, Refused}
+use Rattle.journal.specs.Past.{Past, Each, same_xid, start_of, home_of, is_loss_of, is_up}
+use Rattle.journal.specs.Standing.{row_of, standing, is_open, holds}
+use Rattle.journal.specs.History.{Commit, history}
+use Rattle.journal.specs.Sees.{own, sees}
+use Rattle.journal.specs.Stood.{stood, came_up}
 use Rattle.script_text.specs.declared.item.Stmt.{Stmt}
 use Rattle.script_text.specs.declared.item.Stmt.TheVariants.{Get, Scan, Put, Add, Del, Lock, RollbackTo}
 use Rattle.script_text.specs.ScriptParts.{ScriptParts}

@@ -4,7 +4,7 @@ ghost use Rattle.plain_node.specs.Ran.{HasEmptyLogs};
 ghost use Rattle.rac_top.specs.Creation.{MayBeCut};
 
 use rac_disk::{Failed, SharedDisk};
-use rac_nums::InstNo;
+use base_types::InstNo;
 
 /// Empties the logs of all threads. `Failed` at the first cut that fails: each log is then as it was or empty.
 pub fn cut_logs<D: SharedDisk>(disk: &mut D) -> Result<(), Failed>

@@ -1,7 +1,7 @@
 ghost use Rattle.std.specs.Prelude.{◌≡◌, []};
 
-use rac_nums::InstNo;
-use row_model::Journal;
+use base_types::InstNo;
+use journal::Journal;
 use script_text::Rule;
 use std::alloc::Global;
 

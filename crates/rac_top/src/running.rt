@@ -9,7 +9,7 @@ ghost use Rattle.rac_top.specs.Exits.{EndsByFaults};
 
 use plain_node::{Ran, run_script};
 use rac_disk::SharedDisk;
-use rac_nums::NoMemory;
+use base_types::NoMemory;
 use run_report::report;
 use script_text::Script;
 use std::alloc::Global;

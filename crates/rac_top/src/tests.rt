@@ -1,9 +1,9 @@
 use crate::{Exit, Note, rac};
-use log_table::{HistoryLine, history_of};
+use log_history::{HistoryLine, history_of};
 use rac_disk::{CallKind, MemDisk, Planned, SharedDisk};
 use rac_io::{MemSink, MemSource};
-use rac_nums::{InstNo, RowNo, Scn, Value, Xid};
-use row_model::{Entry, Journal, check};
+use base_types::{InstNo, RowNo, Scn, Value, Xid};
+use journal::{Entry, Journal, check};
 use script_text::Rule;
 use std::alloc::{AllocError, Global};
 use std::process::Abort;

@@ -1,7 +1,7 @@
 ghost use Rattle.std.specs.Prelude.{◌≡◌, ◌≤◌, ℕ, [], ◌⊎◌, map, reverse, string_bytes, length, None, Some, Ok, Err, IfSome, IsSome, IsSomeAnd, true, ◌≢◌, ◌↔◌};
 ghost use Rattle.std.specs.Io.KnownBytes.{Appends, IsAtEnd};
 ghost use Rattle.rac_io.specs.Counts.{Counts, Rose};
-ghost use Rattle.row_model.specs.Good.{GoodRows, GoodFound, GoodCommits, GoodAcknowledgements, GoodStarts, GoodRowLocks, GoodReplay};
+ghost use Rattle.journal.specs.Good.{GoodRows, GoodFound, GoodCommits, GoodAcknowledgements, GoodStarts, GoodRowLocks, GoodReplay};
 ghost use Rattle.script_text.specs.ScriptParts.{ScriptParts};
 ghost use Rattle.script_text.specs.Reading.{Refusal, reading};
 ghost use Rattle.script_text.specs.Asked.{asked};
@@ -29,8 +29,8 @@ use crate::running::{Run, run_and_report};
 use cli_words::{Order, WordsError, read_words};
 use rac_disk::SharedDisk;
 use rac_io::{Sink, Source, WriteFault, write_whole};
-use rac_nums::NoMemory;
-use row_model::Journal;
+use base_types::NoMemory;
+use journal::Journal;
 use std::alloc::Global;
 
 /// The exit where no script was read.

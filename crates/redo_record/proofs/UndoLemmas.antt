@@ -1,7 +1,7 @@
 -- What is read of a change of an undo block.
 use Rattle.std.proofs.Common.{◌≡◌, ℕ, ◌≤◌, List, [], ◌∷◌, drop, length, slice_index, refl, sym, ◌∙◌, arith}
-use Rattle.rac_nums.specs.declared.redo.UndoChange.{UndoChange}
-use Rattle.rac_nums.specs.Bytes.{number_at}
+use Rattle.redo_types.specs.declared.redo.UndoChange.{UndoChange}
+use Rattle.base_types.specs.Bytes.{number_at}
 use Rattle.part_image.specs.Cells.{Begins, Byte, Cell, Number, StandsAt, spelled}
 use Rattle.part_image.specs.Undo.{IsUndoRecord, undo_record_bytes, undo_record_cells}
 use Rattle.part_image.proofs.CellLemmas.{AllFit-append, AllFit-left, AllStand, all_stand_where_spelled, fit_where_all_stand, spelled_where_all_stand}

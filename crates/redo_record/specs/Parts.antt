@@ -1,12 +1,12 @@
 -- The parts of a redo record: what stands before its changes, and the changes that not each kind has.
 use Rattle.std.specs.Prelude.{◌≡◌, ℕ, ◌<◌, ◌≤◌, List, [], ◌∷◌, ◌++◌, drop, replicate, slice_index, take, Option, None, Some, IfSome}
-use Rattle.rac_nums.specs.Bytes.{number_at}
-use Rattle.rac_nums.specs.declared.redo.DataChange.{DataChange}
-use Rattle.rac_nums.specs.declared.redo.HeadChange.{HeadChange}
-use Rattle.rac_nums.specs.declared.redo.Redo.{Redo}
-use Rattle.rac_nums.specs.declared.redo.RedoKind.{RedoKind}
-use Rattle.rac_nums.specs.declared.redo.RedoKind.TheVariants.{Change, Commit, Lock, RollbackEnd, StepBack}
-use Rattle.rac_nums.specs.declared.redo.UndoChange.{UndoChange}
+use Rattle.base_types.specs.Bytes.{number_at}
+use Rattle.redo_types.specs.declared.redo.DataChange.{DataChange}
+use Rattle.redo_types.specs.declared.redo.HeadChange.{HeadChange}
+use Rattle.redo_types.specs.declared.redo.Redo.{Redo}
+use Rattle.redo_types.specs.declared.redo.RedoKind.{RedoKind}
+use Rattle.redo_types.specs.declared.redo.RedoKind.TheVariants.{Change, Commit, Lock, RollbackEnd, StepBack}
+use Rattle.redo_types.specs.declared.redo.UndoChange.{UndoChange}
 use Rattle.part_image.specs.Cells.{Cell, Byte, Number, AllFit}
 use Rattle.part_image.specs.Slots.{xid_cells}
 use Rattle.redo_record.specs.declared.start.Start.{Start}

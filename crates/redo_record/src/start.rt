@@ -1,12 +1,13 @@
 ghost use Rattle.std.specs.Prelude.{◌≡◌, ◌≤◌, ◌+◌, ◌↔◌, true, length};
-ghost use Rattle.rac_nums.specs.Bytes.{Puts};
+ghost use Rattle.base_types.specs.Bytes.{Puts};
 ghost use Rattle.part_image.specs.Cells.{Reads, spelled};
 ghost use Rattle.redo_record.specs.Parts.{HasForm, HasRanges, IsStart, start_cells, start_of};
 ghost use Rattle.redo_record.specs.Redo.{IsXid, NamesUndo};
 
 use crate::kind::{count_of, kind_of, length_of, number_of};
 use part_image::{are_zeros, put_u8};
-use rac_nums::{Redo, RedoKind, Scn, Xid, get_u16, get_u64, get_xid, put_u16, put_u64, put_xid};
+use base_types::{Scn, Xid, get_u16, get_u64, get_xid, put_u16, put_u64, put_xid};
+use redo_types::{Redo, RedoKind};
 
 /// What stands before the changes of a record.
 #[derive(Clone, Copy)]

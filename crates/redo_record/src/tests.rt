@@ -1,9 +1,8 @@
 ghost use Rattle.redo_record.specs.Redo.{IsRedo};
 
 use super::*;
-use rac_nums::{
-    BlockNo, InstNo, ItlSlot, RowChange, Scn, TxnSlot, TxnState, UndoRecord, Value, Xid,
-};
+use base_types::{BlockNo, InstNo, Scn, Value, Xid};
+use redo_types::{ItlSlot, RowChange, TxnSlot, TxnState, UndoRecord};
 use std::process::Abort;
 
 // So many bytes of a record that have a value, and the lowest and the highest value that each of them may

@@ -5,7 +5,8 @@ ghost use Rattle.redo_record.specs.Redo.{IsRedo, length_of};
 ghost use Rattle.redo_thread.specs.Thread.{HasRoom, appended, end_of, forced};
 
 use rac_disk::{Failed, SharedDisk};
-use rac_nums::{InstNo, NoMemory, Redo, RedoAt, Scn};
+use base_types::{InstNo, NoMemory, RedoAt, Scn};
+use redo_types::Redo;
 use redo_record::write;
 use std::alloc::Global;
 use std::marker::Model;

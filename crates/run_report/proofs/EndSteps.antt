@@ -1,11 +1,11 @@
 -- What one entry more changes of the ends that were found.
 use Rattle.std.proofs.Common.{◌≡◌, ℕ, Bool, true, false, not, ◌||◌, ◌&&◌, eqb-true, List, ◌∷◌, refl, ap, ◌∙◌}
 use Rattle.std.specs.Prelude.{◌==◌}
-use Rattle.rac_nums.specs.declared.names.InstNo.{InstNo}
-use Rattle.row_model.specs.declared.entry.Entry.{Entry}
-use Rattle.row_model.specs.declared.entry.Entry.TheVariants.{Ended}
+use Rattle.base_types.specs.declared.names.InstNo.{InstNo}
+use Rattle.journal.specs.declared.entry.Entry.{Entry}
+use Rattle.journal.specs.declared.entry.Entry.TheVariants.{Ended}
 use Rattle.script_text.specs.declared.item.Item.{Item}
-use Rattle.row_model.specs.Past.{up_after, is_up}
+use Rattle.journal.specs.Past.{up_after, is_up}
 use Rattle.script_text.specs.Lines.{current_wave}
 use Rattle.run_report.specs.Ends.{ended_in, ends, is_done}
 

@@ -3,8 +3,8 @@ use Rattle.std.proofs.Common.{◌≡◌, ℕ, suc, ◌+◌, ◌<◌, Bool, List,
 use Rattle.std.specs.List.{enumerate_from}
 use Rattle.std.proofs.lemmas.List.{take_more}
 use Rattle.std.proofs.lemmas.List.Concat.{flat_map-append}
-use Rattle.rac_nums.specs.declared.names.InstNo.{InstNo}
-use Rattle.row_model.specs.declared.entry.Entry.{Entry}
+use Rattle.base_types.specs.declared.names.InstNo.{InstNo}
+use Rattle.journal.specs.declared.entry.Entry.{Entry}
 use Rattle.script_text.specs.declared.item.Item.{Item}
 use Rattle.run_report.specs.Answers.{answers}
 use Rattle.run_report.specs.Reports.{line_answer, said, told, wave_text}

@@ -1,10 +1,10 @@
 -- Which lines are answered by the end of an instance.
 use Rattle.std.specs.Prelude.{ℕ, Bool, true, false, not, ◌&&◌, ◌||◌, ◌==◌, List, [], ◌∷◌}
 use Rattle.std.specs.List.{list_any}
-use Rattle.rac_nums.specs.declared.names.InstNo.{InstNo}
-use Rattle.row_model.specs.declared.entry.Entry.{Entry}
-use Rattle.row_model.specs.declared.entry.Entry.TheVariants.{Ended}
-use Rattle.row_model.specs.Past.{Past, is_up}
+use Rattle.base_types.specs.declared.names.InstNo.{InstNo}
+use Rattle.journal.specs.declared.entry.Entry.{Entry}
+use Rattle.journal.specs.declared.entry.Entry.TheVariants.{Ended}
+use Rattle.journal.specs.Past.{Past, is_up}
 use Rattle.script_text.specs.declared.item.Item.{Item}
 use Rattle.script_text.specs.declared.item.Item.TheVariants.{Session, CrashAfter, CrashMark, Start, Hold}
 use Rattle.script_text.specs.Lines.{current_wave}

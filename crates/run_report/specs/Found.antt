@@ -5,7 +5,7 @@ use Rattle.std.specs.List.{list_any, list_all, slice_index_or}
 use Rattle.std.specs.Option.{option_map_or}
 use Rattle.script_text.specs.declared.item.Item.{Item}
 use Rattle.run_report.specs.Ends.{is_asked, is_ended}
-use Rattle.rac_nums.specs.declared.names.InstNo.{InstNo}
+use Rattle.base_types.specs.declared.names.InstNo.{InstNo}
 use Rattle.run_report.specs.declared.ends.Ends.{Ends}
 
 -- Whether a wave and the number of an instance are among those kept.

@@ -4,11 +4,11 @@ use Rattle.std.specs.Prelude.{decimal, flat_map, length, slice_get, unwrap_or}
 use Rattle.std.specs.Int.{bit_at}
 use Rattle.std.specs.List.{range_with_len}
 use Rattle.std.specs.Option.{option_map_or}
-use Rattle.rac_nums.specs.Texts.{value_text, xid_text}
-use Rattle.row_model.specs.declared.entry.Entry.{Entry}
-use Rattle.row_model.specs.declared.entry.Entry.TheVariants.{Opened, Started, Rows, Changed, Locked, Marked, Committed}
-use Rattle.row_model.specs.declared.entry.Entry.TheVariants.{Acked, Undone, Rolled, Plain, Refused, Crashed, Ended}
-use Rattle.row_model.specs.declared.entry.Entry.TheVariants.{Recovered, Up, Moved, Checkpointed, NotDone}
+use Rattle.base_types.specs.Texts.{value_text, xid_text}
+use Rattle.journal.specs.declared.entry.Entry.{Entry}
+use Rattle.journal.specs.declared.entry.Entry.TheVariants.{Opened, Started, Rows, Changed, Locked, Marked, Committed}
+use Rattle.journal.specs.declared.entry.Entry.TheVariants.{Acked, Undone, Rolled, Plain, Refused, Crashed, Ended}
+use Rattle.journal.specs.declared.entry.Entry.TheVariants.{Recovered, Up, Moved, Checkpointed, NotDone}
 use Rattle.script_text.specs.Lines.{session_in}
 use Rattle.script_text.specs.ScriptParts.{ScriptParts}
 use Rattle.run_report.specs.Texts.{◌⧺◌, rows_text, cause_text}

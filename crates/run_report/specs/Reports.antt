@@ -2,8 +2,8 @@
 use Rattle.std.specs.Prelude.{ℕ, Bool, if◌then◌else◌, List, [], Option, Some}
 use Rattle.std.specs.Prelude.{None, codes, decimal, find, flat_map, reverse}
 use Rattle.std.specs.List.{enumerate_from}
-use Rattle.rac_nums.specs.declared.names.InstNo.{InstNo}
-use Rattle.row_model.specs.declared.entry.Entry.{Entry}
+use Rattle.base_types.specs.declared.names.InstNo.{InstNo}
+use Rattle.journal.specs.declared.entry.Entry.{Entry}
 use Rattle.script_text.specs.ScriptParts.{ScriptParts}
 use Rattle.script_text.specs.declared.item.Item.{Item}
 use Rattle.run_report.specs.Texts.{◌⧺◌}

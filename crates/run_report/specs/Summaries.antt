@@ -4,11 +4,11 @@ use Rattle.std.specs.Prelude.{Some, None, codes, count_by, decimal, fold, nat_eq
 use Rattle.std.specs.Fmt.{signed_decimal}
 use Rattle.std.specs.List.{filter_map}
 use Rattle.std.specs.Set.{distinct_count}
-use Rattle.rac_nums.specs.declared.names.RowNo.{RowNo}
-use Rattle.rac_nums.specs.declared.value.Value.{Value}
-use Rattle.rac_nums.specs.declared.value.Value.TheVariants.{Absent, Num}
-use Rattle.row_model.specs.declared.entry.Entry.{Entry}
-use Rattle.row_model.specs.declared.entry.Entry.TheVariants.{Rows, Changed, Locked, Acked, Rolled, Plain, Refused}
+use Rattle.base_types.specs.declared.names.RowNo.{RowNo}
+use Rattle.base_types.specs.declared.value.Value.{Value}
+use Rattle.base_types.specs.declared.value.Value.TheVariants.{Absent, Num}
+use Rattle.journal.specs.declared.entry.Entry.{Entry}
+use Rattle.journal.specs.declared.entry.Entry.TheVariants.{Rows, Changed, Locked, Acked, Rolled, Plain, Refused}
 use Rattle.run_report.specs.Texts.{◌⧺◌}
 
 -- The statement line that an entry answers.

@@ -1,12 +1,12 @@
 -- What the report and the journal's lines are made of.
 use Rattle.std.specs.Prelude.{ℕ, List, [], ◌∷◌, ◌++◌, codes, decimal, flat_map}
 use Rattle.std.specs.Fmt.{signed_decimal}
-use Rattle.rac_nums.specs.declared.names.RowNo.{RowNo}
-use Rattle.rac_nums.specs.declared.value.Value.{Value}
-use Rattle.rac_nums.specs.Texts.{value_text, xid_text}
-use Rattle.row_model.specs.declared.cause.Cause.{Cause}
-use Rattle.row_model.specs.declared.cause.Cause.TheVariants.{Busy, OldUndo, OldSlot, NoUndo, NoTxnSlot, NoItl}
-use Rattle.row_model.specs.declared.cause.Cause.TheVariants.{Overflow, NoSavepoint, Lost, NotConnected}
+use Rattle.base_types.specs.declared.names.RowNo.{RowNo}
+use Rattle.base_types.specs.declared.value.Value.{Value}
+use Rattle.base_types.specs.Texts.{value_text, xid_text}
+use Rattle.journal.specs.declared.cause.Cause.{Cause}
+use Rattle.journal.specs.declared.cause.Cause.TheVariants.{Busy, OldUndo, OldSlot, NoUndo, NoTxnSlot, NoItl}
+use Rattle.journal.specs.declared.cause.Cause.TheVariants.{Overflow, NoSavepoint, Lost, NotConnected}
 
 -- A text and then another: `++`, grouped to the right.
 infixr 8 ◌⧺◌

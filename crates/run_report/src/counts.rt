@@ -3,8 +3,8 @@ ghost use Rattle.std.specs.List.{filter_map};
 ghost use Rattle.std.specs.Set.{distinct_count};
 ghost use Rattle.run_report.specs.Summaries.{answered_statement, is_acked, is_refused, is_rolled, newest_rows, number_of, sum_of, summary_text};
 
-use rac_nums::{NoMemory, RowNo, Value};
-use row_model::{Entry, Journal};
+use base_types::{NoMemory, RowNo, Value};
+use journal::{Entry, Journal};
 use std::alloc::Global;
 use std::collections::HashSet;
 

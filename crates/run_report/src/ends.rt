@@ -1,10 +1,10 @@
 ghost use Rattle.std.specs.Prelude.{◌≡◌, ℕ, ◌==◌, ◌&&◌, ◌||◌, Bool, true, false, not, OnOk};
-ghost use Rattle.rac_nums.specs.declared.names.InstNo.{InstNo};
+ghost use Rattle.base_types.specs.declared.names.InstNo.{InstNo};
 ghost use Rattle.run_report.specs.Ends.{is_asked, is_ended};
 ghost use Rattle.run_report.specs.Found.{has_pair, kept};
 
-use rac_nums::{InstNo, NoMemory};
-use row_model::Entry;
+use base_types::{InstNo, NoMemory};
+use journal::Entry;
 use script_text::Item;
 use std::alloc::Global;
 use std::collections::HashSet;

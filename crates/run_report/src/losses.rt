@@ -1,8 +1,8 @@
 ghost use Rattle.std.specs.Prelude.{◌≡◌, ◌<◌, ◌^◌, ℕ, Bool, IfOk, false, not, length, nat_eq, reverse};
 ghost use Rattle.std.specs.HashMap.{get};
 ghost use Rattle.std.specs.List.{position_from, slice_index_or};
-ghost use Rattle.rac_nums.specs.declared.names.InstNo.{InstNo};
-ghost use Rattle.row_model.specs.Past.{up_after};
+ghost use Rattle.base_types.specs.declared.names.InstNo.{InstNo};
+ghost use Rattle.journal.specs.Past.{up_after};
 ghost use Rattle.run_report.specs.Answers.{answers};
 ghost use Rattle.run_report.specs.Ends.{ended_in};
 ghost use Rattle.run_report.specs.Found.{kept};
@@ -10,8 +10,8 @@ ghost use Rattle.run_report.specs.Found.{kept};
 use crate::ends::Ends;
 use crate::places::Places;
 use crate::waves::{Cursor, Known, next_open};
-use rac_nums::NoMemory;
-use row_model::Entry;
+use base_types::NoMemory;
+use journal::Entry;
 use script_text::Wave;
 use std::alloc::Global;
 

@@ -3,8 +3,8 @@ ghost use Rattle.run_report.specs.Journals.{HasSession};
 
 use crate::told::tell_waves;
 use crate::{report, summary};
-use rac_nums::{BlockNo, InstNo, NoMemory, RowNo, Scn, Sequence, Value, Xid};
-use row_model::{Cause, Entry, Journal, RowList};
+use base_types::{BlockNo, InstNo, NoMemory, RowNo, Scn, Sequence, Value, Xid};
+use journal::{Cause, Entry, Journal, RowList};
 use script_text::{Item, Keep, Name, Script, Stmt, Wave, read_script};
 use std::alloc::Global;
 use std::test::Fail;

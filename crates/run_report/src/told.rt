@@ -13,8 +13,8 @@ use crate::ends::Ends;
 use crate::journal::push_lines;
 use crate::losses::find_ends;
 use crate::places::{Places, first_answers};
-use rac_nums::NoMemory;
-use row_model::{Entry, Journal};
+use base_types::NoMemory;
+use journal::{Entry, Journal};
 use script_text::{Item, Script, Wave};
 use std::alloc::Global;
 

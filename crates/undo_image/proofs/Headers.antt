@@ -1,8 +1,8 @@
 -- What is read and written of headers.
 use Rattle.std.proofs.Common.{◌≡◌, ℕ, ◌+◌, ◌*◌, ◌<◌, ◌≤◌, List, length, take, get_or, set, replicate, refl, sym, subst, ◌∙◌, arith}
 use Rattle.std.proofs.lemmas.List.{take_all}
-use Rattle.rac_nums.specs.Bytes.{Puts}
-use Rattle.rac_nums.specs.declared.undo.TxnSlot.{TxnSlot}
+use Rattle.base_types.specs.Bytes.{Puts}
+use Rattle.redo_types.specs.declared.undo.TxnSlot.{TxnSlot}
 use Rattle.part_image.specs.declared.front.BlockFront.{BlockFront}
 use Rattle.part_image.specs.declared.front.BlockKind.TheVariants.{Header}
 use Rattle.part_image.specs.Cells.{Begins, IsFirstWrong, StandsAt, spelled}

@@ -1,8 +1,8 @@
 -- What is read and written of undo blocks.
 use Rattle.std.proofs.Common.{◌≡◌, ℕ, ◌+◌, ◌*◌, ◌<◌, ◌≤◌, List, [], ◌∷◌, length, take, get_or, set, replicate, Option, None, Some, refl, sym, ap, subst, ◌∙◌, arith}
 use Rattle.std.proofs.lemmas.List.{take_all}
-use Rattle.rac_nums.specs.Bytes.{Puts}
-use Rattle.rac_nums.specs.declared.undo.UndoRecord.{UndoRecord}
+use Rattle.base_types.specs.Bytes.{Puts}
+use Rattle.redo_types.specs.declared.undo.UndoRecord.{UndoRecord}
 use Rattle.part_image.specs.declared.front.BlockFront.{BlockFront}
 use Rattle.part_image.specs.declared.front.BlockKind.TheVariants.{Undo}
 use Rattle.part_image.specs.Cells.{Number, Zeros, Begins, IsFirstWrong, StandsAt, spelled}

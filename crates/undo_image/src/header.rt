@@ -1,5 +1,5 @@
 ghost use Rattle.std.specs.Prelude.{◌≡◌, ◌<◌, ◌≤◌, ◌-◌, ◌^◌, drop, IfErr, IfOk};
-ghost use Rattle.rac_nums.specs.Bytes.{Puts};
+ghost use Rattle.base_types.specs.Bytes.{Puts};
 ghost use Rattle.part_image.specs.Cells.{IsFirstWrong, Reads, spelled};
 ghost use Rattle.part_image.specs.Undo.{IsTxnSlot};
 ghost use Rattle.undo_image.specs.Header.{AreSlots, HeaderContent, IsHeader, empty_header, header_bytes, header_fields, slot_at, slots_cells, with_slot};
@@ -9,7 +9,8 @@ use crate::status::Status;
 use part_image::{
     BlockFront, BlockKind, are_zeros, put_front, put_txn_slot, put_zeros, read_front, read_txn_slot,
 };
-use rac_nums::{BadBlock, BlockNo, InstNo, Scn, TxnSlot, TxnState, Xid};
+use base_types::{BlockNo, InstNo, Scn, Xid};
+use redo_types::{BadBlock, TxnSlot, TxnState};
 use std::marker::Model;
 
 // The slot that no transaction ever took.

@@ -1,5 +1,5 @@
 ghost use Rattle.std.specs.Prelude.{◌≡◌, ◌<◌, ◌≤◌, ◌-◌, ◌^◌, drop, IfErr, IfOk};
-ghost use Rattle.rac_nums.specs.Bytes.{Puts};
+ghost use Rattle.base_types.specs.Bytes.{Puts};
 ghost use Rattle.part_image.specs.Cells.{IsFirstWrong, Reads, spelled};
 ghost use Rattle.part_image.specs.Undo.{IsUndoRecord};
 ghost use Rattle.undo_image.specs.UndoBlock.{ArePlaces, UndoContent, IsUndoBlock, empty_undo_block, undo_bytes, undo_fields, record_at, places_cells, with_record};
@@ -8,7 +8,8 @@ use part_image::{
     BlockFront, BlockKind, are_zeros, put_front, put_undo_place, put_zeros, read_front,
     read_undo_place,
 };
-use rac_nums::{BadBlock, BlockNo, InstNo, Scn, UndoRecord};
+use base_types::{BlockNo, InstNo, Scn};
+use redo_types::{BadBlock, UndoRecord};
 use std::marker::Model;
 
 /// A block of an undo segment, with four places for undo records.

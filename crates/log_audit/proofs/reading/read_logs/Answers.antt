@@ -2,7 +2,7 @@ use Rattle.std.proofs.Common.{rules, ◌≡◌, ◌<◌, ◌+◌, ◌∙◌, [],
 use Rattle.std.specs.Global.{Global}
 use Rattle.std.proofs.lemmas.List.{map-append}
 use Rattle.std.proofs.lemmas.Grind.{common_steps}
-use Rattle.log_table.specs.Logs.{bytes_of}
+use Rattle.log_history.specs.Logs.{bytes_of}
 use Rattle.log_audit.proofs.ReadingLemmas.{ReadSoFar, read_more}
 use Rattle.log_audit.proofs.reading.read_logs.Goals as goal
 

@@ -1,5 +1,5 @@
 use Rattle.std.proofs.Common.{◌≡◌, length}
-use Rattle.log_table.specs.Logs.{bytes_of}
+use Rattle.log_history.specs.Logs.{bytes_of}
 use Rattle.log_audit.proofs.ReadingLemmas.{ReadSoFar}
 use Rattle.log_audit.proofs.reading.read_logs.Given as goal
 

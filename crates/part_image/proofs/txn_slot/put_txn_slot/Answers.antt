@@ -1,7 +1,7 @@
 use Rattle.std.proofs.Common.{ℕ, ◌+◌, ◌≤◌, List, [], ◌∷◌, length, replicate, arith, refl}
-use Rattle.rac_nums.specs.declared.undo.TxnSlot.{TxnSlot}
-use Rattle.rac_nums.specs.Bytes.{Puts, big_bytes}
-use Rattle.rac_nums.proofs.BytesLemmas.{Puts-append}
+use Rattle.redo_types.specs.declared.undo.TxnSlot.{TxnSlot}
+use Rattle.base_types.specs.Bytes.{Puts, big_bytes}
+use Rattle.base_types.proofs.BytesLemmas.{Puts-append}
 use Rattle.part_image.specs.Undo.{state_number, txn_slot_bytes}
 use Rattle.part_image.proofs.txn_slot.put_txn_slot.Goals as goal
 

@@ -1,5 +1,5 @@
 use Rattle.std.proofs.Common.{[], ◌∷◌, ◌++◌, slice_index, arith, refl, sym, ◌∙◌}
-use Rattle.rac_nums.specs.declared.undo.UndoRecord.{UndoRecord}
+use Rattle.redo_types.specs.declared.undo.UndoRecord.{UndoRecord}
 use Rattle.part_image.specs.Undo.{HasRanges, undo_record_cells}
 use Rattle.part_image.specs.Cells.{Byte, Number, Zeros}
 use Rattle.part_image.specs.Slots.{bits_of, flag_of, itl_cells}

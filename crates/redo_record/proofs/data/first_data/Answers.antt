@@ -1,5 +1,5 @@
 use Rattle.std.proofs.Common.{slice_index, arith, refl, sym, ◌∙◌}
-use Rattle.rac_nums.specs.declared.redo.DataChange.{DataChange}
+use Rattle.redo_types.specs.declared.redo.DataChange.{DataChange}
 use Rattle.part_image.proofs.Numbers.{IsBytes}
 use Rattle.redo_record.proofs.DataLemmas.{DataParts, data_parts, data_ranges, data_read}
 use Rattle.redo_record.proofs.data.first_data.Goals as goal

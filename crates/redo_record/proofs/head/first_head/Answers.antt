@@ -1,5 +1,5 @@
 use Rattle.std.proofs.Common.{slice_index, arith, refl, sym, ◌∙◌}
-use Rattle.rac_nums.specs.declared.redo.HeadChange.{HeadChange}
+use Rattle.redo_types.specs.declared.redo.HeadChange.{HeadChange}
 use Rattle.part_image.proofs.Numbers.{IsBytes}
 use Rattle.redo_record.proofs.HeadLemmas.{HeadParts, head_parts, head_ranges, head_read}
 use Rattle.redo_record.proofs.head.first_head.Goals as goal

@@ -1,6 +1,6 @@
 use Rattle.std.proofs.Common.{ℕ, ◌+◌, ◌≤◌, List, [], ◌∷◌, length, arith, refl}
-use Rattle.rac_nums.specs.Bytes.{Puts, big_bytes, xid_bytes}
-use Rattle.rac_nums.proofs.BytesLemmas.{Puts-append}
+use Rattle.base_types.specs.Bytes.{Puts, big_bytes, xid_bytes}
+use Rattle.base_types.proofs.BytesLemmas.{Puts-append}
 use Rattle.part_image.specs.Cells.{spelled}
 use Rattle.redo_record.specs.declared.start.Start.{Start}
 use Rattle.redo_record.specs.Parts.{start_cells, start_of}

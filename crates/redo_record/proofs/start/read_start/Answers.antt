@@ -1,5 +1,5 @@
 use Rattle.std.proofs.Common.{arith, sym, subst, ◌∙◌}
-use Rattle.rac_nums.specs.declared.redo.RedoKind.{RedoKind}
+use Rattle.redo_types.specs.declared.redo.RedoKind.{RedoKind}
 use Rattle.part_image.proofs.Numbers.{IsBytes}
 use Rattle.redo_record.specs.declared.start.Start.{Start}
 use Rattle.redo_record.specs.Parts.{HasForm, HasRanges}

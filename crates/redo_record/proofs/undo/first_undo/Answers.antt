@@ -1,5 +1,5 @@
 use Rattle.std.proofs.Common.{slice_index, arith, refl, sym, ◌∙◌}
-use Rattle.rac_nums.specs.declared.redo.UndoChange.{UndoChange}
+use Rattle.redo_types.specs.declared.redo.UndoChange.{UndoChange}
 use Rattle.part_image.proofs.Numbers.{IsBytes}
 use Rattle.redo_record.proofs.UndoLemmas.{UndoParts, undo_parts, undo_ranges, undo_read}
 use Rattle.redo_record.proofs.undo.first_undo.Goals as goal

@@ -1,7 +1,7 @@
 use Rattle.std.proofs.Common.{ℕ, ◌+◌, ◌≤◌, List, [], ◌∷◌, length, arith, refl}
-use Rattle.rac_nums.specs.declared.redo.UndoChange.{UndoChange}
-use Rattle.rac_nums.specs.Bytes.{Puts, big_bytes}
-use Rattle.rac_nums.proofs.BytesLemmas.{Puts-append}
+use Rattle.redo_types.specs.declared.redo.UndoChange.{UndoChange}
+use Rattle.base_types.specs.Bytes.{Puts, big_bytes}
+use Rattle.base_types.proofs.BytesLemmas.{Puts-append}
 use Rattle.part_image.specs.Cells.{spelled}
 use Rattle.part_image.specs.Undo.{undo_record_bytes}
 use Rattle.redo_record.specs.Redo.{undo_cells}

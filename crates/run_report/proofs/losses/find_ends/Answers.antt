@@ -1,6 +1,6 @@
 use Rattle.std.proofs.Common.{◌≡◌, ℕ, ◌<◌, Bool, false, take, reverse, get_or, nat_eq, arith, rules, take_all, refl, sym, ap, ◌∙◌}
 use Rattle.std.specs.HashMap.{get}
-use Rattle.rac_nums.specs.declared.names.InstNo.{InstNo}
+use Rattle.base_types.specs.declared.names.InstNo.{InstNo}
 use Rattle.script_text.specs.Lines.{current_wave}
 use Rattle.run_report.specs.Ends.{ended_in, is_done}
 use Rattle.run_report.specs.Found.{is_settled, kept}

@@ -1,8 +1,8 @@
 use Rattle.std.proofs.Common.{◌≡◌, ◌<◌, ℕ, Bool, false, not, nat_eq, take, reverse}
 use Rattle.std.specs.HashMap.{get}
 use Rattle.std.specs.List.{slice_index_or}
-use Rattle.rac_nums.specs.declared.names.InstNo.{InstNo}
-use Rattle.row_model.specs.Past.{is_up}
+use Rattle.base_types.specs.declared.names.InstNo.{InstNo}
+use Rattle.journal.specs.Past.{is_up}
 use Rattle.run_report.specs.Ends.{ended_in}
 use Rattle.run_report.specs.Found.{AreSettled, is_settled, kept}
 use Rattle.run_report.proofs.losses.find_ends.Given as goal

@@ -1,7 +1,7 @@
 use Rattle.std.proofs.Common.{List, arith, subst}
 use Rattle.std.proofs.lemmas.List.{take_all}
-use Rattle.rac_nums.specs.declared.undo.TxnSlot.{TxnSlot}
-use Rattle.rac_nums.specs.Bytes.{Puts}
+use Rattle.redo_types.specs.declared.undo.TxnSlot.{TxnSlot}
+use Rattle.base_types.specs.Bytes.{Puts}
 use Rattle.part_image.specs.Cells.{spelled}
 use Rattle.undo_image.specs.Header.{slots_cells}
 use Rattle.undo_image.proofs.Headers.{more_slots_put}

@@ -1,7 +1,7 @@
 use Rattle.std.proofs.Common.{List, Option, arith, subst}
 use Rattle.std.proofs.lemmas.List.{take_all}
-use Rattle.rac_nums.specs.declared.undo.UndoRecord.{UndoRecord}
-use Rattle.rac_nums.specs.Bytes.{Puts}
+use Rattle.redo_types.specs.declared.undo.UndoRecord.{UndoRecord}
+use Rattle.base_types.specs.Bytes.{Puts}
 use Rattle.part_image.specs.Cells.{spelled}
 use Rattle.undo_image.specs.UndoBlock.{places_cells}
 use Rattle.undo_image.proofs.UndoBlocks.{more_places_put}

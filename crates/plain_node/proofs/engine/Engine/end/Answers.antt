@@ -1,5 +1,5 @@
 use Rattle.std.proofs.Common.{◌∙◌, ap, inr, refl}
-use Rattle.rac_nums.specs.declared.redo.Redo.{Redo}
+use Rattle.redo_types.specs.declared.redo.Redo.{Redo}
 use Rattle.plain_node.specs.declared.node.Node.{Node}
 use Rattle.plain_node.specs.Lost.{entered, marked}
 use Rattle.plain_node.specs.Steps.{finished}

@@ -1,6 +1,6 @@
 use Rattle.std.proofs.Common.{◌∙◌, ap, subst, sym}
 use Rattle.plain_redo.specs.Records.{change_record}
-use Rattle.rac_nums.specs.declared.redo.Redo.{Redo}
+use Rattle.redo_types.specs.declared.redo.Redo.{Redo}
 use Rattle.plain_node.specs.declared.node.Node.{Node}
 use Rattle.plain_node.specs.Steps.{IsOwn, started}
 use Rattle.plain_node.proofs.KeptLemmas.{put-kept, started-tells}
