@@ -27,5 +27,5 @@ whole s0 s1 s2 s3 s4 s5 s6 s7 s8 s9 s10 at d fits p1 p2 p3 p4 p5 p6 p7 p8 p9 p10
 pub returns : goal.returns
 returns c =
     whole c.args.out.now c.put_u8.new.out c.put_u16.new.out c.put_u64.new.out c.put_u8-2.new.out c.put_u8-3.new.out c.put_u8-4.new.out c.put_u8-5.new.out c.put_itl.new.out c.put_u8-6.new.out c.put_u64-2.new.out c.args.at c.args.change.now c.requires
-    c.put_u8.ensures c.put_u16.ensures c.put_u64.ensures c.put_u8-2.ensures c.put_u8-3.ensures c.put_u8-4.ensures
+    c.put_u8.ensures (rw (← c.get.ensures) c.put_u16.ensures) c.put_u64.ensures c.put_u8-2.ensures c.put_u8-3.ensures c.put_u8-4.ensures
     (rw (← c.bit_of.ensures) c.put_u8-5.ensures) c.put_itl.ensures (rw (← c.flag_of.ensures) c.put_u8-6.ensures) (rw (← c.bits_of.ensures) c.put_u64-2.ensures)

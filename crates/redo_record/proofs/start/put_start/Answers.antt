@@ -22,4 +22,4 @@ whole s0 s1 s2 s3 s4 s5 s6 at s fits p1 p2 p3 p4 p5 p6 =
 pub returns : goal.returns
 returns c =
     whole c.args.out.now c.put_u16.new.out c.put_u8.new.out c.put_u8-2.new.out c.put_xid.new.out c.put_u64.new.out c.put_u64-2.new.out c.args.at (start_of c.args.redo.now) c.requires
-    (rw (← c.length_of.ensures) c.put_u16.ensures) (rw (← c.number_of.ensures) c.put_u8.ensures) (rw (← c.count_of.ensures) c.put_u8-2.ensures) c.put_xid.ensures c.put_u64.ensures c.put_u64-2.ensures
+    (rw (← c.length_of.ensures) c.put_u16.ensures) (rw (← c.number_of.ensures) c.put_u8.ensures) (rw (← c.count_of.ensures) c.put_u8-2.ensures) c.put_xid.ensures (rw (← c.get.ensures) c.put_u64.ensures) c.put_u64-2.ensures

@@ -21,4 +21,4 @@ whole s0 s1 s2 s3 s4 s5 at u fits p1 p2 p3 p4 p5 =
 pub returns : goal.returns
 returns c =
     whole c.args.out.now c.put_u8.new.out c.put_u16.new.out c.put_u64.new.out c.put_u8-2.new.out c.put_undo_record.new.out c.args.at c.args.change.now c.requires
-    c.put_u8.ensures c.put_u16.ensures c.put_u64.ensures c.put_u8-2.ensures c.put_undo_record.ensures
+    c.put_u8.ensures (rw (← c.get.ensures) c.put_u16.ensures) c.put_u64.ensures c.put_u8-2.ensures c.put_undo_record.ensures
