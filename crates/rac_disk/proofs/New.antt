@@ -3,7 +3,7 @@ use Rattle.std.proofs.Common.{◌≡◌, ◌≤◌, ℕ, List, length, arith}
 use Rattle.std.proofs.lemmas.List.{length-replicate}
 use Rattle.std.proofs.lemmas.List.Elements.{All-replicate}
 use Rattle.rac_disk.specs.declared.plan.Planned.{Planned}
-use Rattle.rac_disk.specs.Disk.{IsDisk}
+use Rattle.rac_disk.specs.Content.{IsDisk}
 use Rattle.rac_disk.specs.Memory.{new_disk, empty_log, zero_block, zero_entry}
 
 pub length-zero_block : length zero_block ≡ 512

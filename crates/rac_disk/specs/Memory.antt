@@ -7,7 +7,8 @@ use Rattle.rac_disk.specs.declared.plan.CallKind.{CallKind}
 use Rattle.rac_disk.specs.declared.plan.CallKind.TheVariants.{ReadBlock, WriteBlock, Append, Cut, LogLen}
 use Rattle.rac_disk.specs.declared.plan.CallKind.TheVariants.{ReadLog, ReadControl, WriteControl}
 use Rattle.rac_disk.specs.declared.plan.Planned.{Planned}
-use Rattle.rac_disk.specs.Disk.{DiskState, LogState, log_at, room_at, with_log}
+use Rattle.rac_disk.specs.Content.{Content, LogState, log_at, room_at, with_log}
+use Rattle.rac_disk.specs.State.{State}
 
 -- the place of a kind of call in a list of counts
 abbrev pub place_of : CallKind → ℕ
@@ -49,17 +50,21 @@ with_call calls kind = record {
 
 -- a disk in memory: what it holds, its calls, and how many appends met a full log
 pub record MemState : Type 0 where
-  pub disk : DiskState
+  pub disk : Content
   pub calls : Calls
   pub full : ℕ
 
+-- what it tells and counts
+abbrev pub state_of : MemState → State
+state_of it = record { told = Some it.disk; faults = it.calls.faults; full = it.full }
+
 -- after a call of a kind that left this on the disk
-abbrev pub after_call : MemState → CallKind → DiskState → MemState
+abbrev pub after_call : MemState → CallKind → Content → MemState
 after_call it kind disk = record { disk = disk; calls = with_call it.calls kind; full = it.full }
 
 -- What a write leaves that is planned to fail and to keep so much, or isn't planned to fail: the new, or the old
 -- where it keeps nothing.
-abbrev pub left_by_write : Option ℕ → DiskState → DiskState → DiskState
+abbrev pub left_by_write : Option ℕ → Content → Content → Content
 left_by_write None old new = new
 left_by_write (Some zero) old new = old
 left_by_write (Some (suc keep)) old new = new
@@ -70,7 +75,7 @@ piece_of None bytes = bytes
 piece_of (Some keep) bytes = take keep bytes
 
 -- how many bytes more a thread's log has room for
-abbrev pub free_at : DiskState → ℕ → ℕ
+abbrev pub free_at : Content → ℕ → ℕ
 free_at it thread = room_at it thread - length (log_at it thread)
 
 -- an append met a full log: it wasn't planned to fail, and there was less room than bytes

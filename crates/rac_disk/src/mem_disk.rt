@@ -1,6 +1,5 @@
 ghost use Rattle.std.specs.Prelude.{◌≡◌, ◌<◌, ◌≤◌, ◌-◌, ◌++◌, Some, length, take, drop, min, replicate, IfOk, IsErr, is_ok, is_none};
-ghost use Rattle.rac_io.specs.Counts.{Counts};
-ghost use Rattle.rac_disk.specs.Calls.{WhereTold, ReadsBlock, WritesBlock, Appends, CutsLog, GivesLength, ReadsLog, ReadsControl, WritesControl, HasRoom, CountsAppend};
+ghost use Rattle.rac_disk.specs.Calls.{ReadsBlock, WritesBlock, Appends, CutsLog, GivesLength, ReadsLog, ReadsControl, WritesControl};
 ghost use Rattle.rac_disk.specs.Memory.{piece_of, empty_log, zero_entry};
 
 use crate::mem_blocks::MemBlocks;
@@ -23,7 +22,7 @@ pub struct MemDisk {
 }
 
 impl Model for MemDisk {
-    ghost use Rattle.rac_disk.specs.Disk.{IsDisk};
+    ghost use Rattle.rac_disk.specs.Content.{IsDisk};
     ghost use Rattle.rac_disk.specs.Memory.{MemState};
 
     ghost Value = { MemState };
@@ -59,20 +58,14 @@ impl MemDisk {
 }
 
 impl SharedDisk for MemDisk {
-    ghost use Rattle.rac_disk.specs.Disk.{block_at, with_block, log_at, room_at, with_log, control_at, with_control};
-    ghost use Rattle.rac_disk.specs.Memory.{planned, left_by_write, after_call, after_append, append_succeeds, free_at};
+    ghost use Rattle.rac_disk.specs.Content.{block_at, with_block, log_at, room_at, with_log, control_at, with_control};
+    ghost use Rattle.rac_disk.specs.Memory.{state_of, planned, left_by_write, after_call, after_append, append_succeeds, free_at};
 
-    ghost state = { λ it. Some it.disk };
-
-    ghost faults = { λ it. it.calls.faults };
-
-    ghost full = { λ it. it.full };
+    ghost state = { state_of };
 
     fn read_block(&mut self, b: BlockNo, out: &mut [u8; 512]) -> Result<(), Failed>
-        requires { b.0 < 200 }
-        ensures disk { WhereTold (Some self.old.disk) (Some self.new.disk) (ReadsBlock b.0 out.new result) }
-        ensures faults { Counts (IsErr result) self.old.calls.faults self.new.calls.faults }
-        ensures full { self.new.full ≡ self.old.full }
+        requires { b < 200 }
+        ensures disk { ReadsBlock b out.new result (state_of self.old) (state_of self.new) }
         ensures answer { is_ok result ≡ is_none (planned self.old.calls CallKind.ReadBlock) }
         ensures err { IsErr result → out.new ≡ out.old }
         ensures after { self.new ≡ after_call self.old CallKind.ReadBlock self.old.disk }
@@ -85,12 +78,10 @@ impl SharedDisk for MemDisk {
     }
 
     fn write_block(&mut self, b: BlockNo, bytes: &[u8; 512]) -> Result<(), Failed>
-        requires { b.0 < 200 }
-        ensures disk { WhereTold (Some self.old.disk) (Some self.new.disk) (WritesBlock b.0 bytes.now result) }
-        ensures faults { Counts (IsErr result) self.old.calls.faults self.new.calls.faults }
-        ensures full { self.new.full ≡ self.old.full }
+        requires { b < 200 }
+        ensures disk { WritesBlock b bytes.now result (state_of self.old) (state_of self.new) }
         ensures answer { is_ok result ≡ is_none (planned self.old.calls CallKind.WriteBlock) }
-        ensures after { self.new ≡ after_call self.old CallKind.WriteBlock (left_by_write (planned self.old.calls CallKind.WriteBlock) self.old.disk (with_block self.old.disk b.0 bytes.now)) }
+        ensures after { self.new ≡ after_call self.old CallKind.WriteBlock (left_by_write (planned self.old.calls CallKind.WriteBlock) self.old.disk (with_block self.old.disk b bytes.now)) }
     {
         let keep = self.calls.count(CallKind::WriteBlock);
         if keep == Some(0) {
@@ -101,11 +92,10 @@ impl SharedDisk for MemDisk {
     }
 
     fn append(&mut self, t: InstNo, bytes: &[u8]) -> Result<(), Failed>
-        requires { t.0 < 8 }
-        ensures disk { WhereTold (Some self.old.disk) (Some self.new.disk) (Appends t.0 bytes.now result) }
-        ensures counts { CountsAppend (IsErr result) (HasRoom (Some self.old.disk) t.0 (length bytes.now)) self.old.calls.faults self.new.calls.faults self.old.full self.new.full }
-        ensures answer { is_ok result ≡ append_succeeds (planned self.old.calls CallKind.Append) (free_at self.old.disk t.0) bytes.now }
-        ensures after { self.new ≡ after_append self.old t.0 bytes.now }
+        requires { t < 8 }
+        ensures disk { Appends t bytes.now result (state_of self.old) (state_of self.new) }
+        ensures answer { is_ok result ≡ append_succeeds (planned self.old.calls CallKind.Append) (free_at self.old.disk t) bytes.now }
+        ensures after { self.new ≡ after_append self.old t bytes.now }
     {
         let keep = self.calls.count(CallKind::Append);
         let log = &mut self.logs[usize::from(t.0)];
@@ -121,12 +111,10 @@ impl SharedDisk for MemDisk {
     }
 
     fn cut_log(&mut self, t: InstNo, len: u64) -> Result<(), Failed>
-        requires { t.0 < 8 }
-        ensures disk { WhereTold (Some self.old.disk) (Some self.new.disk) (CutsLog t.0 len result) }
-        ensures faults { Counts (IsErr result) self.old.calls.faults self.new.calls.faults }
-        ensures full { self.new.full ≡ self.old.full }
+        requires { t < 8 }
+        ensures disk { CutsLog t len result (state_of self.old) (state_of self.new) }
         ensures answer { is_ok result ≡ is_none (planned self.old.calls CallKind.Cut) }
-        ensures after { self.new ≡ after_call self.old CallKind.Cut (left_by_write (planned self.old.calls CallKind.Cut) self.old.disk (with_log self.old.disk t.0 (take len (log_at self.old.disk t.0)))) }
+        ensures after { self.new ≡ after_call self.old CallKind.Cut (left_by_write (planned self.old.calls CallKind.Cut) self.old.disk (with_log self.old.disk t (take len (log_at self.old.disk t)))) }
     {
         let keep = self.calls.count(CallKind::Cut);
         if keep == Some(0) {
@@ -138,10 +126,8 @@ impl SharedDisk for MemDisk {
     }
 
     fn log_len(&mut self, t: InstNo) -> Result<u64, Failed>
-        requires { t.0 < 8 }
-        ensures disk { WhereTold (Some self.old.disk) (Some self.new.disk) (GivesLength t.0 result) }
-        ensures faults { Counts (IsErr result) self.old.calls.faults self.new.calls.faults }
-        ensures full { self.new.full ≡ self.old.full }
+        requires { t < 8 }
+        ensures disk { GivesLength t result (state_of self.old) (state_of self.new) }
         ensures answer { is_ok result ≡ is_none (planned self.old.calls CallKind.LogLen) }
         ensures after { self.new ≡ after_call self.old CallKind.LogLen self.old.disk }
     {
@@ -153,11 +139,8 @@ impl SharedDisk for MemDisk {
     }
 
     fn read_log(&mut self, t: InstNo, at: u64, out: &mut [u8]) -> Result<usize, Failed>
-        requires { t.0 < 8 }
-        ensures bound { IfOk result (λ count. count ≤ length out.new) }
-        ensures disk { WhereTold (Some self.old.disk) (Some self.new.disk) (ReadsLog t.0 at out.new result) }
-        ensures faults { Counts (IsErr result) self.old.calls.faults self.new.calls.faults }
-        ensures full { self.new.full ≡ self.old.full }
+        requires { t < 8 }
+        ensures disk { ReadsLog t at out.new result (state_of self.old) (state_of self.new) }
         ensures answer { is_ok result ≡ is_none (planned self.old.calls CallKind.ReadLog) }
         ensures behind { IfOk result (λ count. drop count out.new ≡ drop count out.old) }
         ensures err { IsErr result → out.new ≡ out.old }
@@ -171,10 +154,8 @@ impl SharedDisk for MemDisk {
     }
 
     fn read_control(&mut self, t: InstNo, out: &mut [u8; 32]) -> Result<(), Failed>
-        requires { t.0 < 8 }
-        ensures disk { WhereTold (Some self.old.disk) (Some self.new.disk) (ReadsControl t.0 out.new result) }
-        ensures faults { Counts (IsErr result) self.old.calls.faults self.new.calls.faults }
-        ensures full { self.new.full ≡ self.old.full }
+        requires { t < 8 }
+        ensures disk { ReadsControl t out.new result (state_of self.old) (state_of self.new) }
         ensures answer { is_ok result ≡ is_none (planned self.old.calls CallKind.ReadControl) }
         ensures err { IsErr result → out.new ≡ out.old }
         ensures after { self.new ≡ after_call self.old CallKind.ReadControl self.old.disk }
@@ -187,12 +168,10 @@ impl SharedDisk for MemDisk {
     }
 
     fn write_control(&mut self, t: InstNo, bytes: &[u8; 32]) -> Result<(), Failed>
-        requires { t.0 < 8 }
-        ensures disk { WhereTold (Some self.old.disk) (Some self.new.disk) (WritesControl t.0 bytes.now result) }
-        ensures faults { Counts (IsErr result) self.old.calls.faults self.new.calls.faults }
-        ensures full { self.new.full ≡ self.old.full }
+        requires { t < 8 }
+        ensures disk { WritesControl t bytes.now result (state_of self.old) (state_of self.new) }
         ensures answer { is_ok result ≡ is_none (planned self.old.calls CallKind.WriteControl) }
-        ensures after { self.new ≡ after_call self.old CallKind.WriteControl (left_by_write (planned self.old.calls CallKind.WriteControl) self.old.disk (with_control self.old.disk t.0 bytes.now)) }
+        ensures after { self.new ≡ after_call self.old CallKind.WriteControl (left_by_write (planned self.old.calls CallKind.WriteControl) self.old.disk (with_control self.old.disk t bytes.now)) }
     {
         let keep = self.calls.count(CallKind::WriteControl);
         if keep == Some(0) {

@@ -13,7 +13,7 @@ pub struct MemLog {
 
 impl Model for MemLog {
     ghost use Rattle.std.specs.Prelude.{◌≤◌, vec_len, vec_capacity};
-    ghost use Rattle.rac_disk.specs.Disk.{LogState};
+    ghost use Rattle.rac_disk.specs.Content.{LogState};
 
     ghost Value = { LogState };
 
