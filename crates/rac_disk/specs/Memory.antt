@@ -110,15 +110,18 @@ zero_block = replicate 512 0
 unfoldable pub zero_entry : List ℕ
 zero_entry = replicate 32 0
 
--- A new disk in memory: all its blocks and control entries are zeros, its logs are empty and have this room, and no
--- call was made.
+-- what a new disk holds: all its blocks and control entries are zeros, and its logs are empty and have this room
+abbrev pub new_content : ℕ → Content
+new_content room = record {
+  blocks = replicate 200 zero_block;
+  logs = replicate 8 (empty_log room);
+  controls = replicate 8 zero_entry;
+}
+
+-- a new disk in memory, of which no call was made
 abbrev pub new_disk : ℕ → List Planned → MemState
 new_disk room plan = record {
-  disk = record {
-    blocks = replicate 200 zero_block;
-    logs = replicate 8 (empty_log room);
-    controls = replicate 8 zero_entry;
-  };
+  disk = new_content room;
   calls = record { plan = plan; made = replicate 8 0; faults = 0 };
   full = 0;
 }

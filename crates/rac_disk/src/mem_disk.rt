@@ -2,8 +2,7 @@ ghost use Rattle.std.specs.Prelude.{◌≡◌, ◌<◌, ◌≤◌, ◌-◌, ◌+
 ghost use Rattle.rac_disk.specs.Calls.{ReadsBlock, WritesBlock, Appends, CutsLog, GivesLength, ReadsLog, ReadsControl, WritesControl};
 ghost use Rattle.rac_disk.specs.Memory.{piece_of, empty_log, zero_entry};
 
-use crate::mem_blocks::MemBlocks;
-use crate::mem_log::MemLog;
+use crate::mem_content::MemContent;
 use crate::plan::{CallKind, CallLog, Planned};
 use crate::shared_disk::{Failed, SharedDisk};
 use base_types::{BlockNo, InstNo, NoMemory};
@@ -14,9 +13,7 @@ use std::marker::Model;
 /// has no room keeps the bytes that have room, and fails too.
 #[derive(Drop)]
 pub struct MemDisk {
-    blocks: MemBlocks,
-    logs: Vec<MemLog>,
-    controls: [[u8; 32]; 8],
+    content: MemContent,
     calls: CallLog,
     full: u64,
 }
@@ -27,9 +24,9 @@ impl Model for MemDisk {
 
     ghost Value = { MemState };
 
-    ghost view = { λ it. record { disk = record { blocks = it.blocks; logs = it.logs.items; controls = it.controls }; calls = it.calls; full = it.full } };
+    ghost view = { λ it. record { disk = it.content; calls = it.calls; full = it.full } };
 
-    ghost invariant = { λ it. IsDisk (record { blocks = it.blocks; logs = it.logs.items; controls = it.controls }) };
+    ghost invariant = { λ it. IsDisk it.content };
 }
 
 impl MemDisk {
@@ -48,9 +45,7 @@ impl MemDisk {
         ensures { IfOk result (λ it. it ≡ new_disk log_bytes plan.items) }
     {
         Ok(MemDisk {
-            blocks: MemBlocks::new(alloc, blocks)?,
-            logs: empty_logs(alloc, log_bytes as usize)?,
-            controls: empty_controls(),
+            content: MemContent::new(alloc, blocks, log_bytes)?,
             calls: CallLog::new(plan),
             full: 0,
         })
@@ -73,7 +68,7 @@ impl SharedDisk for MemDisk {
         if self.calls.count(CallKind::ReadBlock).is_some() {
             return Err(Failed);
         }
-        *out = *self.blocks.read(b.0);
+        *out = *self.content.block(b);
         Ok(())
     }
 
@@ -87,7 +82,7 @@ impl SharedDisk for MemDisk {
         if keep == Some(0) {
             return Err(Failed);
         }
-        self.blocks.write(b.0, bytes);
+        self.content.write_block(b, bytes);
         answer(keep)
     }
 
@@ -98,8 +93,7 @@ impl SharedDisk for MemDisk {
         ensures after { self.new ≡ after_append self.old t bytes.now }
     {
         let keep = self.calls.count(CallKind::Append);
-        let log = &mut self.logs[usize::from(t.0)];
-        let whole = log.append(first(bytes, keep));
+        let whole = self.content.append(t, first(bytes, keep));
         if keep.is_some() {
             return Err(Failed);
         }
@@ -120,8 +114,7 @@ impl SharedDisk for MemDisk {
         if keep == Some(0) {
             return Err(Failed);
         }
-        let log = &mut self.logs[usize::from(t.0)];
-        log.cut(len);
+        self.content.cut(t, len);
         answer(keep)
     }
 
@@ -134,8 +127,7 @@ impl SharedDisk for MemDisk {
         if self.calls.count(CallKind::LogLen).is_some() {
             return Err(Failed);
         }
-        let log = &self.logs[usize::from(t.0)];
-        Ok(log.len() as u64)
+        Ok(self.content.log(t).len() as u64)
     }
 
     fn read_log(&mut self, t: InstNo, at: u64, out: &mut [u8]) -> Result<usize, Failed>
@@ -149,8 +141,9 @@ impl SharedDisk for MemDisk {
         if self.calls.count(CallKind::ReadLog).is_some() {
             return Err(Failed);
         }
-        let log = &self.logs[usize::from(t.0)];
-        Ok(log.read(at, out))
+        let log = self.content.log(t);
+        let start = log.len().min(at as usize);
+        Ok(copy_front(&log[start..], out))
     }
 
     fn read_control(&mut self, t: InstNo, out: &mut [u8; 32]) -> Result<(), Failed>
@@ -163,7 +156,7 @@ impl SharedDisk for MemDisk {
         if self.calls.count(CallKind::ReadControl).is_some() {
             return Err(Failed);
         }
-        *out = self.controls[usize::from(t.0)];
+        *out = *self.content.control(t);
         Ok(())
     }
 
@@ -177,7 +170,7 @@ impl SharedDisk for MemDisk {
         if keep == Some(0) {
             return Err(Failed);
         }
-        self.controls[usize::from(t.0)] = *bytes;
+        self.content.write_control(t, bytes);
         answer(keep)
     }
 
@@ -188,24 +181,6 @@ impl SharedDisk for MemDisk {
     fn faults(&self) -> u64 {
         self.calls.faults()
     }
-}
-
-// A log for each thread.
-fn empty_logs(alloc: Global, room: usize) -> Result<Vec<MemLog>, NoMemory>
-    ensures { IfOk result (λ logs. logs.items ≡ replicate 8 (empty_log room)) }
-{
-    let mut logs = Vec::with_capacity(alloc, 8)?;
-    for _thread in 0..8usize {
-        logs.push(MemLog::new(alloc, room)?)?;
-    }
-    Ok(logs)
-}
-
-// A control entry for each thread.
-fn empty_controls() -> [[u8; 32]; 8]
-    ensures { result ≡ replicate 8 zero_entry }
-{
-    [[0; 32]; 8]
 }
 
 // A call that is planned to fail fails.
@@ -226,4 +201,14 @@ fn first(bytes: &[u8], keep: Option<u32>) -> &[u8]
         Some(keep) => &bytes[..bytes.len().min(keep as usize)],
         None => bytes,
     }
+}
+
+// Copies as many first bytes of `bytes` to the front of `out` as fit; how many these are.
+fn copy_front(bytes: &[u8], out: &mut [u8]) -> usize
+    ensures count { result ≡ min (length bytes.now) (length out.old) }
+    ensures copied { out.new ≡ take result bytes.now ++ drop result out.old }
+{
+    let count = bytes.len().min(out.len());
+    out[..count].copy_from_slice(&bytes[..count]);
+    count
 }
