@@ -1,4 +1,4 @@
-ghost use Rattle.std.specs.Prelude.{Some};
+ghost use Rattle.std.specs.Prelude.{◌≡◌, Some};
 ghost use Rattle.base_types.specs.Texts.{xid_text};
 
 use std::fmt;
@@ -18,6 +18,15 @@ impl Model for Scn {
     ghost inverse = { λ n. record { 0 = n } };
 }
 
+impl Scn {
+    /// The number itself.
+    pub fn get(self) -> u64
+        ensures { result ≡ self }
+    {
+        self.0
+    }
+}
+
 /// The number of an instance, from 0 to 7; also of its redo thread and of its undo segment.
 #[derive(Clone, Copy, Debug, PartialEq, Eq, PartialOrd, Ord)]
 pub struct InstNo(pub u8);
@@ -30,6 +39,15 @@ impl Model for InstNo {
     ghost view = { λ it. it.0 };
 
     ghost inverse = { λ n. record { 0 = n } };
+}
+
+impl InstNo {
+    /// The number itself.
+    pub fn get(self) -> u8
+        ensures { result ≡ self }
+    {
+        self.0
+    }
 }
 
 /// The number of a block on the disk.
@@ -46,6 +64,15 @@ impl Model for BlockNo {
     ghost inverse = { λ n. record { 0 = n } };
 }
 
+impl BlockNo {
+    /// The number itself.
+    pub fn get(self) -> u16
+        ensures { result ≡ self }
+    {
+        self.0
+    }
+}
+
 /// The number of a row, from 0 to 511. Row K stands in block K / 8.
 #[derive(Clone, Copy, Debug, PartialEq, Eq, PartialOrd, Ord)]
 pub struct RowNo(pub u16);
@@ -60,6 +87,15 @@ impl Model for RowNo {
     ghost inverse = { λ n. record { 0 = n } };
 }
 
+impl RowNo {
+    /// The number itself.
+    pub fn get(self) -> u16
+        ensures { result ≡ self }
+    {
+        self.0
+    }
+}
+
 /// A place in a redo thread, in bytes from the beginning of its log.
 #[derive(Clone, Copy, Debug, PartialEq, Eq, PartialOrd, Ord)]
 pub struct RedoAt(pub u64);
@@ -72,6 +108,15 @@ impl Model for RedoAt {
     ghost view = { λ it. it.0 };
 
     ghost inverse = { λ n. record { 0 = n } };
+}
+
+impl RedoAt {
+    /// The number itself.
+    pub fn get(self) -> u64
+        ensures { result ≡ self }
+    {
+        self.0
+    }
 }
 
 /// The name of a transaction: its undo segment, its slot there (0 to 7), and how often that slot was

@@ -13,7 +13,7 @@ use Rattle.block_image.specs.Block.{BlockContent, clear_row, row_at, slot_at}
 -- the block with this number that no record touched: its ITL slots are unused, and its rows absent and not locked
 abbrev pub empty_block : BlockNo → BlockContent
 empty_block number = record {
-  front = record { number = number; seg = record { 0 = 0 }; version = 0; scn = record { 0 = 0 }; next = 0 };
+  front = record { number = number; seg = 0; version = 0; scn = 0; next = 0 };
   itl = replicate 4 unused_itl;
   rows = replicate 8 clear_row;
 }

@@ -127,7 +127,7 @@ lines_same : {S : Type 0} (groups : HashMap ℕ (Vec StandingChange) S) (all : L
 lines_same groups all n [] same = refl
 lines_same groups all n (records ∷ threads) same =
     let line : (r : Redo) → line_by groups n r ≡ line_of all n r = λ r.
-    ap (λ (changes : List (RowNo × Value)). if is_commit r.kind then Some (record { c = r.scn; inst = record { 0 = n }; xid = r.xid; changes = changes }) else None) (same r.xid) in
+    ap (λ (changes : List (RowNo × Value)). if is_commit r.kind then Some (record { c = r.scn; inst = n; xid = r.xid; changes = changes }) else None) (same r.xid) in
     ap (λ (lines : List HistoryLine). lines ++ lines_by groups (suc n) threads) (filter_map-same (line_by groups n) (line_of all n) line records)
     ∙ ap (λ (lines : List HistoryLine). filter_map (line_of all n) records ++ lines) (lines_same groups all (suc n) threads same)
 

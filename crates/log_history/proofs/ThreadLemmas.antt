@@ -80,13 +80,13 @@ bytes_at logs i log within is = get_or-map (λ (log : Vec ℕ). log.items) logs 
 
 -- a torn end was told
 pub torn_told : (thread : InstNo) (len : ℕ) (records : List Redo) (rest : List ℕ) (torn : Bool) (old new : List (InstNo × ℕ))
-    → torn ≡ is_some rest → len ≡ length (log_bytes records) → torn ≡ true → new ≡ old ++ (thread, len) ∷ [] → new ≡ old ++ torn_end thread.0 records rest
+    → torn ≡ is_some rest → len ≡ length (log_bytes records) → torn ≡ true → new ≡ old ++ (thread, len) ∷ [] → new ≡ old ++ torn_end thread records rest
 torn_told thread len records [] torn old new is size told pushed = absurd cc
 torn_told thread len records (byte ∷ rest) torn old new is size told pushed = pushed ∙ ap (λ (n : ℕ). old ++ (thread, n) ∷ []) size
 
 -- there was none
 pub none_told : (thread : InstNo) (records : List Redo) (rest : List ℕ) (torn : Bool) (old new : List (InstNo × ℕ))
-    → torn ≡ is_some rest → torn ≡ false → new ≡ old → new ≡ old ++ torn_end thread.0 records rest
+    → torn ≡ is_some rest → torn ≡ false → new ≡ old → new ≡ old ++ torn_end thread records rest
 none_told thread records [] torn old new is told same = same ∙ sym (append-nil old)
 none_told thread records (byte ∷ rest) torn old new is told same = absurd cc
 

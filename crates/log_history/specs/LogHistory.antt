@@ -39,7 +39,7 @@ takes_back x seq r = is_step_back r.kind && same_xid x r.xid && r.seq == seq
 
 -- the row of the whole database and the value that a change of a data block puts there
 abbrev pub row_and_value : DataChange → RowNo × Value
-row_and_value d = (record { 0 = 8 * d.block.0 + d.to.row }, d.to.value)
+row_and_value d = (8 * d.block + d.to.row, d.to.value)
 
 -- what a record changed for a transaction, unless one of all the records takes it back
 abbrev pub change_in : List Redo → Xid → Redo → Option (RowNo × Value)
@@ -53,7 +53,7 @@ changes_in all x = filter_map (change_in all x) all
 -- the transaction that a Commit record of a thread ends, with its changes
 abbrev pub line_of : List Redo → ℕ → Redo → Option HistoryLine
 line_of all thread r =
-    if is_commit r.kind then Some (record { c = r.scn; inst = record { 0 = thread }; xid = r.xid; changes = changes_in all r.xid }) else None
+    if is_commit r.kind then Some (record { c = r.scn; inst = thread; xid = r.xid; changes = changes_in all r.xid }) else None
 
 -- the transactions that the Commit records of the threads end, thread by thread, from a thread on
 abbrev pub lines_from : List Redo → ℕ → List (List Redo) → List HistoryLine
@@ -62,7 +62,7 @@ lines_from all thread (records ∷ more) = filter_map (line_of all thread) recor
 
 -- whether a line comes after another: by its SCN, and where these are equal by its thread
 abbrev pub is_after : HistoryLine → HistoryLine → Bool
-is_after a b = nat_lt b.c.0 a.c.0 || a.c.0 == b.c.0 && nat_lt b.inst.0 a.inst.0
+is_after a b = nat_lt b.c a.c || a.c == b.c && nat_lt b.inst a.inst
 
 -- Lines are in order: none comes after a later one.
 abbrev pub IsInOrder : List HistoryLine → Type 0

@@ -32,7 +32,7 @@ AreLogs _ _ _ = ⊥
 -- where the rest of a thread's log begins, if there is one
 abbrev pub torn_end : ℕ → List Redo → List ℕ → List (InstNo × ℕ)
 torn_end thread records [] = []
-torn_end thread records (byte ∷ rest) = (record { 0 = thread }, length (log_bytes records)) ∷ []
+torn_end thread records (byte ∷ rest) = (thread, length (log_bytes records)) ∷ []
 
 -- The threads from this one on whose logs have a rest, each with the place where it begins.
 abbrev pub torn_ends : ℕ → List (List Redo) → List (List ℕ) → List (InstNo × ℕ)
@@ -62,7 +62,7 @@ IsFirstWrong (bytes ∷ logs) (suc thread) place = IsRight bytes × IsFirstWrong
 
 -- What an error says of the logs.
 abbrev pub IsBad : List (List ℕ) → LogError → Type 0
-IsBad logs (BadLog thread place) = IsFirstWrong logs thread.0 place
+IsBad logs (BadLog thread place) = IsFirstWrong logs thread place
 IsBad logs NoMemory = Unit {0}
 
 -- whether bytes stand there
@@ -89,7 +89,7 @@ pub record IsNext (bytes : List ℕ) (thread : ℕ) (old new : List (List Redo))
 
 -- An error says where the log of this thread is wrong.
 abbrev pub IsWrong : List ℕ → ℕ → LogError → Type 0
-IsWrong bytes thread (BadLog at place) = (at.0 ≡ thread) × IsWrongAt bytes place
+IsWrong bytes thread (BadLog at place) = (at ≡ thread) × IsWrongAt bytes place
 IsWrong bytes thread NoMemory = Unit {0}
 
 -- A log was not read, as it is wrong at a place.

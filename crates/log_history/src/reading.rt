@@ -91,9 +91,9 @@ fn read_next(
     threads: &mut Vec<Vec<Redo>>,
     torn: &mut Vec<(InstNo, u64)>,
 ) -> Result<(), LogError>
-    ensures ok { OnOk result (IsNext bytes.now thread.0 (records_of threads.old.items) (records_of threads.new.items)
+    ensures ok { OnOk result (IsNext bytes.now thread (records_of threads.old.items) (records_of threads.new.items)
         torn.old.items torn.new.items) }
-    ensures bad { IfErr result (IsWrong bytes.now thread.0) }
+    ensures bad { IfErr result (IsWrong bytes.now thread) }
 {
     match read_log(alloc, bytes) {
         Ok(log) => {

@@ -44,7 +44,7 @@ pub record Parts (bytes : List ℕ) (v : UndoRecord) : Type 0 where
   pub row : slice_index bytes 10 ≡ v.row
   pub mine : slice_index bytes 11 ≡ bit v.mine
   pub wrap : number_at 4 bytes 12 ≡ v.wrap
-  pub block : number_at 2 bytes 16 ≡ v.block.0
+  pub block : number_at 2 bytes 16 ≡ v.block
   pub version : number_at 8 bytes 24 ≡ v.version
   pub prev : number_at 8 bytes 32 ≡ v.prev
   pub old_itl : StandsAt bytes 40 (itl_bytes v.old_itl)

@@ -70,11 +70,11 @@ pub fn put_front(out: &mut [u8], kind: BlockKind, front: &BlockFront)
 {
     put_u8(out, 0, number_of(kind));
     put_u8(out, 1, 1);
-    put_u16(out, 2, front.number.0);
-    put_u8(out, 4, front.seg.0);
+    put_u16(out, 2, front.number.get());
+    put_u8(out, 4, front.seg.get());
     put_zeros(out, 5, 3);
     put_u64(out, 8, front.version);
-    put_u64(out, 16, front.scn.0);
+    put_u64(out, 16, front.scn.get());
     put_u64(out, 24, front.next);
 }
 
@@ -103,7 +103,7 @@ fn has_segment(kind: BlockKind, bytes: &[u8]) -> bool
 fn has_scn(front: &BlockFront) -> bool
     ensures { (result ≡ true) ↔ HasScn front.now }
 {
-    (front.version == 0) == (front.scn.0 == 0)
+    (front.version == 0) == (front.scn.get() == 0)
 }
 
 // Whether a block of the kind may have the next sequence number.

@@ -23,7 +23,7 @@ fn first_itl(bytes: &[u8]) -> Option<ItlSlot>
         xid: get_xid(bytes, 0),
         seq: get_u64(bytes, 8),
     };
-    if are_zeros(bytes, 2, 2) && is_slot(slot) {
+    if are_zeros(bytes, 2, 2) && is_slot(&slot) {
         Some(slot)
     } else {
         None
@@ -40,12 +40,12 @@ pub fn put_itl(out: &mut [u8], at: usize, slot: ItlSlot)
 }
 
 // Whether what was read is a slot never used or a used one.
-fn is_slot(slot: ItlSlot) -> bool
-    ensures { (result ≡ true) ↔ ((slot ≡ unused_itl) ⊎ IsUsedItl slot) }
+fn is_slot(slot: &ItlSlot) -> bool
+    ensures { (result ≡ true) ↔ ((slot.now ≡ unused_itl) ⊎ IsUsedItl slot.now) }
 {
     if slot.xid.wrap == 0 {
-        slot.xid.seg.0 == 0 && slot.xid.slot == 0 && slot.seq == 0
+        slot.xid.seg.get() == 0 && slot.xid.slot == 0 && slot.seq == 0
     } else {
-        slot.xid.seg.0 < 8 && slot.xid.slot < 8 && slot.seq >= 1
+        slot.xid.seg.get() < 8 && slot.xid.slot < 8 && slot.seq >= 1
     }
 }

@@ -77,7 +77,7 @@ pub fn put_undo_record(out: &mut [u8], at: usize, undo: &UndoRecord)
     put_u8(out, at + 10, undo.row);
     put_u8(out, at + 11, bit_of(undo.mine));
     put_u32(out, at + 12, undo.wrap);
-    put_u16(out, at + 16, undo.block.0);
+    put_u16(out, at + 16, undo.block.get());
     put_zeros(out, at + 18, 6);
     put_u64(out, at + 24, undo.version);
     put_u64(out, at + 32, undo.prev);

@@ -18,9 +18,9 @@ const UNUSED: ItlSlot = ItlSlot {
 /// The record of a change of a row, which held `found` and holds `new`.
 pub fn change_record(xid: Xid, scn: Scn, row: RowNo, found: Value, new: Value) -> Redo
     requires xid { IsXid xid }
-    requires row { row.0 < 512 }
-    requires some_scn { 1 ≤ scn.0 }
-    requires scn { scn.0 + 1 < 2 ^ 64 }
+    requires row { row < 512 }
+    requires some_scn { 1 ≤ scn }
+    requires scn { scn + 1 < 2 ^ 64 }
     ensures made { result ≡ change_record xid scn row found new }
     ensures is_redo { IsRedo result }
 {
@@ -40,8 +40,8 @@ pub fn change_record(xid: Xid, scn: Scn, row: RowNo, found: Value, new: Value) -
 /// The record of a commit.
 pub fn commit_record(xid: Xid, scn: Scn) -> Redo
     requires xid { IsXid xid }
-    requires some_scn { 1 ≤ scn.0 }
-    requires scn { scn.0 + 1 < 2 ^ 64 }
+    requires some_scn { 1 ≤ scn }
+    requires scn { scn + 1 < 2 ^ 64 }
     ensures made { result ≡ commit_record xid scn }
     ensures is_redo { IsRedo result }
 {
@@ -71,7 +71,7 @@ fn end_before(xid: Xid) -> Scn
 }
 
 fn open_slot(xid: Xid, scn: Scn) -> TxnSlot
-    ensures slot { result ≡ open_slot xid scn.0 }
+    ensures slot { result ≡ open_slot xid scn }
     ensures wrap { xid.wrap < 2 ^ 32 }
 {
     TxnSlot {
@@ -85,7 +85,7 @@ fn open_slot(xid: Xid, scn: Scn) -> TxnSlot
 }
 
 fn ended_slot(xid: Xid, scn: Scn) -> TxnSlot
-    ensures slot { result ≡ ended_slot xid scn.0 }
+    ensures slot { result ≡ ended_slot xid scn }
     ensures wrap { xid.wrap < 2 ^ 32 }
 {
     TxnSlot {
@@ -99,8 +99,8 @@ fn ended_slot(xid: Xid, scn: Scn) -> TxnSlot
 }
 
 fn head_of(xid: Xid, scn: Scn, to: TxnSlot) -> HeadChange
-    requires { scn.0 + 1 < 2 ^ 64 }
-    ensures { result ≡ head_of xid scn.0 to }
+    requires { scn + 1 < 2 ^ 64 }
+    ensures { result ≡ head_of xid scn to }
 {
     HeadChange {
         block: BlockNo(4),
@@ -112,7 +112,7 @@ fn head_of(xid: Xid, scn: Scn, to: TxnSlot) -> HeadChange
 }
 
 fn undo_of(xid: Xid, scn: Scn, row: RowNo, found: Value) -> UndoChange
-    ensures { result ≡ undo_of xid scn.0 row found }
+    ensures { result ≡ undo_of xid scn row found }
 {
     UndoChange {
         block: BlockNo(5),
@@ -135,7 +135,7 @@ fn undo_of(xid: Xid, scn: Scn, row: RowNo, found: Value) -> UndoChange
 }
 
 fn data_of(xid: Xid, scn: Scn, row: RowNo, new: Value) -> DataChange
-    ensures { result ≡ data_of xid scn.0 row new }
+    ensures { result ≡ data_of xid scn row new }
 {
     DataChange {
         block: BlockNo(row.0 / 8),

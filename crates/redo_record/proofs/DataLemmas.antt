@@ -14,7 +14,7 @@ use Rattle.redo_record.proofs.Joined.{put_together, taken_apart}
 
 -- the cells before the ITL slot, and those behind it
 abbrev numbers : DataChange → List Cell
-numbers d = Byte 3 ∷ Number 2 d.block.0 ∷ Number 8 d.version ∷ Byte d.to.row ∷ Byte d.to.lock ∷ Byte d.to.itl ∷ Byte (bit d.to.fresh) ∷ []
+numbers d = Byte 3 ∷ Number 2 d.block ∷ Number 8 d.version ∷ Byte d.to.row ∷ Byte d.to.lock ∷ Byte d.to.itl ∷ Byte (bit d.to.fresh) ∷ []
 
 abbrev held : DataChange → List Cell
 held d = Byte (flag_of d.to.value) ∷ Number 8 (bits_of d.to.value) ∷ []
@@ -22,7 +22,7 @@ held d = Byte (flag_of d.to.value) ∷ Number 8 (bits_of d.to.value) ∷ []
 -- where the numbers of a change of a data block stand
 pub record DataParts (bytes : List ℕ) (d : DataChange) : Type 0 where
   pub letter : slice_index bytes 0 ≡ 3
-  pub block : number_at 2 bytes 1 ≡ d.block.0
+  pub block : number_at 2 bytes 1 ≡ d.block
   pub version : number_at 8 bytes 3 ≡ d.version
   pub row : slice_index bytes 11 ≡ d.to.row
   pub lock : slice_index bytes 12 ≡ d.to.lock
@@ -76,7 +76,7 @@ data_read bytes d fits long parts ranges slot value =
     )
 
 -- the ranges are those of five numbers
-pub data_ranges : (bytes : List ℕ) (d v : DataChange) → d.block.0 ≡ v.block.0 → d.version ≡ v.version → d.to.row ≡ v.to.row → d.to.lock ≡ v.to.lock → d.to.itl ≡ v.to.itl → slice_index bytes 0 ≡ 3 → IsDataChange v → HasDataRanges bytes d
+pub data_ranges : (bytes : List ℕ) (d v : DataChange) → d.block ≡ v.block → d.version ≡ v.version → d.to.row ≡ v.to.row → d.to.lock ≡ v.to.lock → d.to.itl ≡ v.to.itl → slice_index bytes 0 ≡ 3 → IsDataChange v → HasDataRanges bytes d
 data_ranges bytes d v block version row lock itl letter is = record {
   letter = letter;
   version = omega (arith, is.version);

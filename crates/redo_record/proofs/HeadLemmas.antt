@@ -13,12 +13,12 @@ use Rattle.redo_record.proofs.Joined.{put_together, taken_apart}
 
 -- the cells before the slot
 abbrev numbers : HeadChange → List Cell
-numbers h = Byte 1 ∷ Number 2 h.block.0 ∷ Number 8 h.version ∷ Byte h.slot ∷ Number 8 h.next ∷ []
+numbers h = Byte 1 ∷ Number 2 h.block ∷ Number 8 h.version ∷ Byte h.slot ∷ Number 8 h.next ∷ []
 
 -- where the numbers of a change of a header stand
 pub record HeadParts (bytes : List ℕ) (h : HeadChange) : Type 0 where
   pub letter : slice_index bytes 0 ≡ 1
-  pub block : number_at 2 bytes 1 ≡ h.block.0
+  pub block : number_at 2 bytes 1 ≡ h.block
   pub version : number_at 8 bytes 3 ≡ h.version
   pub slot : slice_index bytes 11 ≡ h.slot
   pub next : number_at 8 bytes 12 ≡ h.next

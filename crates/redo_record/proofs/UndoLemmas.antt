@@ -13,12 +13,12 @@ use Rattle.redo_record.proofs.Joined.{long_where_begun, put_together, taken_apar
 
 -- the cells before the undo record
 abbrev numbers : UndoChange → List Cell
-numbers u = Byte 2 ∷ Number 2 u.block.0 ∷ Number 8 u.version ∷ Byte u.place ∷ []
+numbers u = Byte 2 ∷ Number 2 u.block ∷ Number 8 u.version ∷ Byte u.place ∷ []
 
 -- where the numbers of a change of an undo block stand
 pub record UndoParts (bytes : List ℕ) (u : UndoChange) : Type 0 where
   pub letter : slice_index bytes 0 ≡ 2
-  pub block : number_at 2 bytes 1 ≡ u.block.0
+  pub block : number_at 2 bytes 1 ≡ u.block
   pub version : number_at 8 bytes 3 ≡ u.version
   pub place : slice_index bytes 11 ≡ u.place
   pub to : StandsAt bytes 12 (undo_record_bytes u.to)

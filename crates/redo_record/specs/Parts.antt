@@ -21,12 +21,12 @@ IsReadKind number None = (kind : RedoKind) → number ≡ kind_number kind → �
 abbrev pub start_cells : Start → List Cell
 start_cells s =
     Number 2 (length_of s.kind) ∷ Byte (kind_number s.kind) ∷ Byte (change_count s.kind)
-    ∷ xid_cells s.xid ++ Number 8 s.scn.0 ∷ Number 8 s.seq ∷ []
+    ∷ xid_cells s.xid ++ Number 8 s.scn ∷ Number 8 s.seq ∷ []
 
 -- the numbers of a record are in their ranges
 pub record HasRanges (s : Start) : Type 0 where
   pub xid : IsXid s.xid
-  pub scn : 1 ≤ s.scn.0
+  pub scn : 1 ≤ s.scn
   pub seq : NamesUndo s.kind s.seq
 
 -- the length and the count are those of the kind, and the bytes that no number has are zero
@@ -90,7 +90,7 @@ HasUndoRanges bytes u = (slice_index bytes 0 ≡ 2) × (1 ≤ u.version) × (u.p
 pub record HasDataRanges (bytes : List ℕ) (d : DataChange) : Type 0 where
   pub letter : slice_index bytes 0 ≡ 3
   pub version : 1 ≤ d.version
-  pub block : d.block.0 < 64
+  pub block : d.block < 64
   pub row : d.to.row < 8
   pub lock : d.to.lock ≤ 4
   pub some_itl : 1 ≤ d.to.itl

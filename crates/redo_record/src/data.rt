@@ -63,7 +63,7 @@ fn put_some_data(out: &mut [u8], at: usize, change: &DataChange)
     ensures { Puts out.old out.new at (spelled (data_cells change.now)) }
 {
     put_u8(out, at, 3);
-    put_u16(out, at + 1, change.block.0);
+    put_u16(out, at + 1, change.block.get());
     put_u64(out, at + 3, change.version);
     put_u8(out, at + 11, change.to.row);
     put_u8(out, at + 12, change.to.lock);
@@ -81,7 +81,7 @@ fn has_ranges(bytes: &[u8], change: &DataChange) -> bool
 {
     bytes[0] == 3
         && change.version >= 1
-        && change.block.0 < 64
+        && change.block.get() < 64
         && change.to.row < 8
         && change.to.lock <= 4
         && change.to.itl >= 1

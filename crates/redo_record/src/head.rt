@@ -43,7 +43,7 @@ pub fn put_head(out: &mut [u8], at: usize, change: &HeadChange)
     ensures { Puts out.old out.new at (spelled (head_cells change.now)) }
 {
     put_u8(out, at, 1);
-    put_u16(out, at + 1, change.block.0);
+    put_u16(out, at + 1, change.block.get());
     put_u64(out, at + 3, change.version);
     put_u8(out, at + 11, change.slot);
     put_u64(out, at + 12, change.next);

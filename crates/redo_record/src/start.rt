@@ -48,7 +48,7 @@ pub fn put_start(out: &mut [u8], at: usize, redo: &Redo)
     put_u8(out, at + 2, number_of(redo.kind));
     put_u8(out, at + 3, count_of(redo.kind));
     put_xid(out, at + 4, redo.xid);
-    put_u64(out, at + 12, redo.scn.0);
+    put_u64(out, at + 12, redo.scn.get());
     put_u64(out, at + 20, redo.seq);
 }
 
@@ -64,13 +64,13 @@ fn has_form(kind: RedoKind, bytes: &[u8]) -> bool
 fn has_ranges(start: &Start) -> bool
     ensures { (result ≡ true) ↔ HasRanges start.now }
 {
-    is_xid(start.xid) && start.scn.0 >= 1 && names_undo(start.kind, start.seq)
+    is_xid(start.xid) && start.scn.get() >= 1 && names_undo(start.kind, start.seq)
 }
 
 fn is_xid(xid: Xid) -> bool
     ensures { (result ≡ true) ↔ IsXid xid }
 {
-    xid.seg.0 < 8 && xid.slot < 8 && xid.wrap >= 1
+    xid.seg.get() < 8 && xid.slot < 8 && xid.wrap >= 1
 }
 
 // Whether a record of the kind may have this sequence number of an undo record.

@@ -57,7 +57,7 @@ fn put_some_undo(out: &mut [u8], at: usize, change: &UndoChange)
     ensures { Puts out.old out.new at (spelled (undo_cells change.now)) }
 {
     put_u8(out, at, 2);
-    put_u16(out, at + 1, change.block.0);
+    put_u16(out, at + 1, change.block.get());
     put_u64(out, at + 3, change.version);
     put_u8(out, at + 11, change.place);
     put_undo_record(out, at + 12, &change.to);

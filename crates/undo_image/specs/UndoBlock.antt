@@ -44,10 +44,10 @@ record_at u place = slice_index_or u.places place None
 abbrev pub empty_undo_block : ℕ → ℕ → UndoContent
 empty_undo_block number seg = record {
   front = record {
-    number = record { 0 = number };
-    seg = record { 0 = seg };
+    number = number;
+    seg = seg;
     version = 0;
-    scn = record { 0 = 0 };
+    scn = 0;
     next = 0;
   };
   places = replicate 4 None;

@@ -44,7 +44,7 @@ impl Model for UndoHeader {
 impl UndoHeader {
     /// The header of a segment that no transaction ever used.
     pub fn empty(number: BlockNo, seg: InstNo) -> Self
-        ensures { result ≡ empty_header number.0 seg.0 }
+        ensures { result ≡ empty_header number seg }
     {
         UndoHeader {
             front: BlockFront {
@@ -86,7 +86,7 @@ impl UndoHeader {
     /// What the header tells of a transaction of its segment that took its slot: its wrap is at least 1 and at
     /// most the slot's.
     pub fn status(&self, x: Xid) -> Status
-        requires segment { x.seg.0 ≡ self.now.front.seg.0 }
+        requires segment { x.seg ≡ self.now.front.seg }
         requires slot { x.slot < 8 }
         requires taken { 1 ≤ x.wrap }
         requires known { x.wrap ≤ (slot_at self.now x.slot).wrap }
@@ -148,9 +148,11 @@ impl UndoHeader {
     pub fn copy(&self) -> Self
         ensures { result ≡ self.now }
     {
+        let front = &self.front;
+        let [a, b, c, d, e, f, g, h] = &self.slots;
         UndoHeader {
-            front: self.front,
-            slots: self.slots,
+            front: *front,
+            slots: [*a, *b, *c, *d, *e, *f, *g, *h],
         }
     }
 
@@ -168,7 +170,7 @@ impl UndoHeader {
         requires slot { IsTxnSlot slot.now }
         requires next { 1 ≤ next }
         requires version { self.old.front.version < 2 ^ 64 - 1 }
-        requires scn { 1 ≤ scn.0 }
+        requires scn { 1 ≤ scn }
         ensures { self.new ≡ with_slot self.old k slot.now next scn }
     {
         self.front.version += 1;

@@ -32,7 +32,7 @@ impl Model for UndoBlock {
 impl UndoBlock {
     /// The undo block that no undo record was ever written to.
     pub fn empty(number: BlockNo, seg: InstNo) -> Self
-        ensures { result ≡ empty_undo_block number.0 seg.0 }
+        ensures { result ≡ empty_undo_block number seg }
     {
         UndoBlock {
             front: BlockFront {
@@ -111,9 +111,11 @@ impl UndoBlock {
     pub fn copy(&self) -> Self
         ensures { result ≡ self.now }
     {
+        let front = &self.front;
+        let [first, second, third, fourth] = &self.places;
         UndoBlock {
-            front: self.front,
-            places: self.places,
+            front: *front,
+            places: [*first, *second, *third, *fourth],
         }
     }
 
@@ -130,7 +132,7 @@ impl UndoBlock {
         requires place { place < 4 }
         requires undo { IsUndoRecord undo.now }
         requires version { self.old.front.version < 2 ^ 64 - 1 }
-        requires scn { 1 ≤ scn.0 }
+        requires scn { 1 ≤ scn }
         ensures { self.new ≡ with_record self.old place undo.now scn }
     {
         self.front.version += 1;

@@ -6,7 +6,7 @@ use Rattle.log_history.proofs.history.enter_thread.Given as goal
 abbrev pub invariant-loop-redo : goal.invariant-loop-redo
 invariant-loop-redo l = record {
   entered :
-      in_order l.lines.items (filter_map (line_by l.standing l.thread.0) (drop l.redo-index l.records))
-      ≡ in_order l.fn.lines.items (filter_map (line_by l.standing l.thread.0) l.records);
+      in_order l.lines.items (filter_map (line_by l.standing l.thread) (drop l.redo-index l.records))
+      ≡ in_order l.fn.lines.items (filter_map (line_by l.standing l.thread) l.records);
   ordered : IsInOrder l.lines.items;
 }
