@@ -13,7 +13,7 @@ pub struct MemLog {
 
 impl Model for MemLog {
     ghost use Rattle.std.specs.Prelude.{◌≤◌, vec_len, vec_capacity};
-    ghost use Rattle.rac_disk.specs.Disk.{LogState};
+    ghost use Rattle.rac_disk.specs.Content.{LogState};
 
     ghost Value = { LogState };
 
@@ -33,11 +33,11 @@ impl MemLog {
         })
     }
 
-    /// How many bytes it has.
-    pub fn len(&self) -> usize
-        ensures { result ≡ length self.now.bytes }
+    /// Its bytes.
+    pub fn bytes(&self) -> &[u8]
+        ensures { result.now ≡ self.now.bytes }
     {
-        self.bytes.len()
+        self.bytes.as_slice()
     }
 
     /// Appends as many first bytes of a piece as there is room for; whether these are all.
@@ -59,23 +59,4 @@ impl MemLog {
     {
         self.bytes.truncate(len as usize);
     }
-
-    /// Copies the bytes from a place on to the front of `out`, as many as fit; how many these are.
-    pub fn read(&self, at: u64, out: &mut [u8]) -> usize
-        ensures count { result ≡ min (length self.now.bytes - at) (length out.old) }
-        ensures copied { out.new ≡ take result (drop at self.now.bytes) ++ drop result out.old }
-    {
-        let start = self.bytes.len().min(at as usize);
-        copy_front(&self.bytes[start..], out)
-    }
-}
-
-// Copies as many first bytes of `bytes` to the front of `out` as fit; how many these are.
-fn copy_front(bytes: &[u8], out: &mut [u8]) -> usize
-    ensures count { result ≡ min (length bytes.now) (length out.old) }
-    ensures copied { out.new ≡ take result bytes.now ++ drop result out.old }
-{
-    let count = bytes.len().min(out.len());
-    out[..count].copy_from_slice(&bytes[..count]);
-    count
 }
