@@ -8,8 +8,8 @@ use Rattle.journal.specs.declared.entry.Entry.{Entry}
 use Rattle.journal.specs.declared.entry.Entry.TheVariants.{Changed, Locked, Marked, Rolled}
 use Rattle.journal.specs.Past.{Past, same_xid, is_loss_of}
 use Rattle.journal.specs.Standing.{open_after, is_open, holds, row_of, standing}
-use Rattle.journal.specs.Place.{changer}
-use Rattle.journal.proofs.PastLemmas.{stood_reverse}
+use Rattle.journal_check.specs.Place.{changer}
+use Rattle.journal_check.proofs.PastLemmas.{stood_reverse}
 
 -- whether an entry is a change entry of a transaction
 abbrev pub is_deed_of : Xid → Entry → Bool
@@ -33,7 +33,7 @@ open_after-deed x (Locked n y row) before h = by_test (same_xid x y) h
     by_test false h = inr h
 open_after-deed x (Marked n y c) before h = inr (cond_false_or (same_xid x y) before h)
 open_after-deed x (Rolled y) before h = inr (cond_false_or (same_xid x y) before h)
-open_after-deed x e before h = inr (cond_false_or (is_loss_of x.seg.0 e) before h)
+open_after-deed x e before h = inr (cond_false_or (is_loss_of x.seg e) before h)
 
 is_open-deed : (x : Xid) (past : Past) → is_open x past ≡ true → list_any (is_deed_of x) past ≡ true
 is_open-deed x [] h = (cc)

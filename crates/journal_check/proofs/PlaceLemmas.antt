@@ -7,13 +7,14 @@ use Rattle.base_types.specs.declared.names.Scn.{Scn}
 use Rattle.base_types.specs.declared.names.Xid.{Xid}
 use Rattle.base_types.specs.declared.value.Value.{Value}
 use Rattle.journal.specs.declared.entry.Entry.TheVariants.{Started, Rows, Changed, Locked, Marked, Committed, Acked, Undone, Rolled}
-use Rattle.journal.specs.Past.{Past, Start, start_of, home_of, is_up}
+use Rattle.journal.specs.declared.deeds.Start.{Start}
+use Rattle.journal.specs.Past.{Past, start_of, home_of, is_up}
 use Rattle.journal.specs.Standing.{holds}
-use Rattle.journal.specs.History.{Commit}
+use Rattle.journal.specs.declared.deeds.Commit.{Commit}
 use Rattle.journal.specs.Sees.{sees}
 use Rattle.journal.specs.Stood.{stood, is_mark, is_mark_by, is_commit, is_commit_at, is_commit_by, acked_up_to, started_up_to, came_up}
-use Rattle.journal.specs.Checked.{AreBelow, AreListed}
-use Rattle.journal.specs.Place.{IsGoodAt}
+use Rattle.journal_check.specs.Checked.{AreBelow, AreListed}
+use Rattle.journal_check.specs.Place.{IsGoodAt}
 
 -- a test that decides P decides what P is the same as
 pub iff_trans : {P Q R : Type 0} → P ↔ Q → Q ↔ R → P ↔ R
@@ -33,7 +34,7 @@ IsSome-from_and P None h = (absurd h)
 
 module _ (rows : ℕ) (commits : List Commit) (past : Past) where
   pub started_iff : (n z : ℕ) (s : Scn)
-      → ((acked_up_to past ≤ s.0) × (started_up_to z past ≤ s.0) × IsSomeAnd (home_of z past) (λ i. (is_up i past ≡ true) × (came_up z past ≡ false)))
+      → ((acked_up_to past ≤ s) × (started_up_to z past ≤ s) × IsSomeAnd (home_of z past) (λ i. (is_up i past ≡ true) × (came_up z past ≡ false)))
       ↔ IsGoodAt rows commits past (Started n z s)
   started_iff n z s = (
     λ h. record {
@@ -69,10 +70,10 @@ module _ (rows : ℕ) (commits : List Commit) (past : Past) where
   -- what a change and a lock have in common
   abbrev pub DeedParts : ℕ → Xid → RowNo → Type 0
   DeedParts n x row =
-      (row.0 < rows) × IsSome (start_of n past) × (stood (is_commit x) past ≡ false) × ((y : Xid) → holds y row.0 past ≡ true → y ≡ x)
+      (row < rows) × IsSome (start_of n past) × (stood (is_commit x) past ≡ false) × ((y : Xid) → holds y row past ≡ true → y ≡ x)
 
   pub changed_iff : (n : ℕ) (x : Xid) (row : RowNo) (found new : Value)
-      → (DeedParts n x row × IsSomeAnd (start_of n past) (λ start. found ≡ sees commits past start row.0))
+      → (DeedParts n x row × IsSomeAnd (start_of n past) (λ start. found ≡ sees commits past start row))
       ↔ IsGoodAt rows commits past (Changed n x row found new)
   changed_iff n x row found new = (
     λ h. record {
@@ -122,7 +123,7 @@ module _ (rows : ℕ) (commits : List Commit) (past : Past) where
   )
 
   pub committed_iff : (x : Xid) (c : Scn) (i : InstNo)
-      → ((i.0 ≡ x.seg.0) × (stood (is_mark x c.0) past ≡ true) × (stood (is_commit x) past ≡ false) × (stood (is_commit_by c.0 i.0) past ≡ false))
+      → ((i ≡ x.seg) × (stood (is_mark x c) past ≡ true) × (stood (is_commit x) past ≡ false) × (stood (is_commit_by c i) past ≡ false))
       ↔ IsGoodAt rows commits past (Committed x c i)
   committed_iff x c i = (
     λ h. record { rows_exist = tt; named = tt; listed = tt; found = tt; commit = h; acknowledgement = tt; start = tt; row_lock = tt },
@@ -130,7 +131,7 @@ module _ (rows : ℕ) (commits : List Commit) (past : Past) where
   )
 
   pub acked_iff : (n : ℕ) (x : Xid) (c : Scn)
-      → ((stood (is_mark_by n x c.0) past ≡ true) × (stood (is_commit_at x c.0) past ≡ true))
+      → ((stood (is_mark_by n x c) past ≡ true) × (stood (is_commit_at x c) past ≡ true))
       ↔ IsGoodAt rows commits past (Acked n x c)
   acked_iff n x c = (
     λ h. record { rows_exist = tt; named = tt; listed = tt; found = tt; commit = tt; acknowledgement = h; start = tt; row_lock = tt },

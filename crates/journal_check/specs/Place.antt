@@ -4,9 +4,9 @@ use Rattle.base_types.specs.declared.names.Xid.{Xid}
 use Rattle.journal.specs.declared.entry.Entry.{Entry}
 use Rattle.journal.specs.declared.entry.Entry.TheVariants.{Changed, Locked}
 use Rattle.journal.specs.Past.{Past}
-use Rattle.journal.specs.History.{Commit}
+use Rattle.journal.specs.declared.deeds.Commit.{Commit}
 use Rattle.journal.specs.Good.{FoundIsSeen, CommitIsProper, AckIsProper, StartIsProper, RowIsFree}
-use Rattle.journal.specs.Checked.{RowsExist, IsNamed, RowsAreListed}
+use Rattle.journal_check.specs.Checked.{RowsExist, IsNamed, RowsAreListed}
 
 -- all that is asked of an entry and of the entries before it, by the commits of the whole journal
 pub record IsGoodAt (rows : ℕ) (commits : List Commit) (past : Past) (e : Entry) : Type 0 where

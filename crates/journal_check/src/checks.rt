@@ -1,19 +1,17 @@
-ghost use Rattle.std.specs.Prelude.{◌↔◌, List, map, IfOk, IsTrue};
+ghost use Rattle.std.specs.Prelude.{◌↔◌, IfOk, IsTrue};
 ghost use Rattle.journal.specs.Good.{Replays};
-ghost use Rattle.journal.specs.Checked.{IsChecked};
-ghost use Rattle.journal.specs.Values.{as_change};
+ghost use Rattle.journal_check.specs.Checked.{IsChecked};
 
 use crate::commits::{changes_in, history};
-use crate::deeds::RowChange;
-use crate::entry::Journal;
 use crate::place::is_good_at;
 use crate::sight::value_by;
 use base_types::NoMemory;
+use journal::{Change, Journal};
 use std::alloc::Global;
 
 /// Whether each change found what the older ones leave in its row; the newest comes first.
-fn replays(changes: &[RowChange]) -> bool
-    ensures { IsTrue result ↔ Replays (map as_change changes.now) }
+fn replays(changes: &[Change]) -> bool
+    ensures { IsTrue result ↔ Replays changes.now }
 {
     for (at, change) in changes.iter().enumerate() {
         if change.found != value_by(&changes[at + 1..], change.row) {

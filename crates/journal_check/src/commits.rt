@@ -1,30 +1,25 @@
-ghost use Rattle.std.specs.Prelude.{◌≡◌, ◌∷◌, ◌++◌, ◌≤◌, List, map, reverse, take, drop, length, IfOk, OnOk};
-ghost use Rattle.journal.specs.History.{marked, is_before, entered, history_of_past, changes_up_to};
+ghost use Rattle.std.specs.Prelude.{◌≡◌, ◌∷◌, ◌++◌, ◌≤◌, reverse, take, drop, length, IfOk, OnOk};
+ghost use Rattle.journal.specs.History.{marked, is_before, entered, history, changes_up_to};
 ghost use Rattle.journal.specs.Good.{changes_in};
-ghost use Rattle.journal.specs.Values.{as_change, as_commit};
 
-use crate::deeds::{RowChange, standing_changes};
-use crate::entry::Entry;
+use crate::deeds::standing_changes;
 use crate::stood::is_mark;
-use base_types::{InstNo, NoMemory, Scn, Xid};
+use base_types::{NoMemory, Scn, Sequence, Xid};
+use journal::{Change, Commit, Entry};
 use std::alloc::Global;
 
-/// A commit: its SCN, the instance that made it, its transaction, and its changes, the newest first.
-#[derive(Debug, Drop)]
-pub struct TxnCommit {
-    pub c: Scn,
-    pub inst: InstNo,
-    pub xid: Xid,
-    pub changes: Vec<RowChange>,
-}
-
 /// The changes that stood at the last mark of a transaction at an SCN, the newest first.
-fn marked(alloc: Global, xid: Xid, c: Scn, past: &[Entry]) -> Result<Vec<RowChange>, NoMemory>
-    ensures { IfOk result (λ changes. map as_change changes.items ≡ marked xid c.0 (reverse past.now)) }
+fn marked(
+    alloc: Global,
+    xid: &Xid,
+    commit_scn: Scn,
+    past: &[Entry],
+) -> Result<Vec<Change>, NoMemory>
+    ensures { IfOk result (λ changes. changes.items ≡ marked xid.now commit_scn (reverse past.now)) }
 {
     let mut changes = Vec::new(alloc);
     for (at, entry) in past.iter().enumerate() {
-        if is_mark(xid, c, entry) {
+        if is_mark(xid, commit_scn, entry) {
             changes = standing_changes(alloc, xid, &past[..at])?;
         }
     }
@@ -32,17 +27,17 @@ fn marked(alloc: Global, xid: Xid, c: Scn, past: &[Entry]) -> Result<Vec<RowChan
 }
 
 /// Whether a commit comes before another: by its SCN, and where these are equal by its instance.
-fn is_before(a: &TxnCommit, b: &TxnCommit) -> bool
-    ensures { result ≡ is_before (as_commit a.now) (as_commit b.now) }
+fn is_before(a: &Commit, b: &Commit) -> bool
+    ensures { result ≡ is_before a.now b.now }
 {
-    a.c.0 < b.c.0 || a.c.0 == b.c.0 && a.inst.0 < b.inst.0
+    a.commit_scn < b.commit_scn || a.commit_scn == b.commit_scn && a.inst < b.inst
 }
 
 /// The place of a commit among others in order, the latest first.
-fn place_among(commit: &TxnCommit, commits: &[TxnCommit]) -> usize
+fn place_among(commit: &Commit, commits: &[Commit]) -> usize
     ensures within { result ≤ length commits.now }
-    ensures entered { entered (as_commit commit.now) (map as_commit commits.now) ≡
-        map as_commit (take result commits.now) ++ as_commit commit.now ∷ map as_commit (drop result commits.now) }
+    ensures entered { entered commit.now commits.now ≡
+        (take result commits.now) ++ commit.now ∷ (drop result commits.now) }
 {
     for (at, other) in commits.iter().enumerate() {
         if !is_before(commit, other) {
@@ -53,9 +48,9 @@ fn place_among(commit: &TxnCommit, commits: &[TxnCommit]) -> usize
 }
 
 /// Adds a commit to others in order, the latest first.
-fn enter(commit: TxnCommit, commits: &mut Vec<TxnCommit>) -> Result<(), NoMemory>
-    ensures { OnOk result (map as_commit commits.new.items ≡
-        entered (as_commit commit) (map as_commit commits.old.items)) }
+fn enter(commit: Commit, commits: &mut Vec<Commit>) -> Result<(), NoMemory>
+    ensures { OnOk result (commits.new.items ≡
+        entered commit commits.old.items) }
 {
     let at = place_among(&commit, commits.as_slice());
     commits.insert(at, commit)?;
@@ -63,18 +58,23 @@ fn enter(commit: TxnCommit, commits: &mut Vec<TxnCommit>) -> Result<(), NoMemory
 }
 
 /// The commits that entries leave, the latest first.
-pub fn history(alloc: Global, past: &[Entry]) -> Result<Vec<TxnCommit>, NoMemory>
-    ensures { IfOk result (λ commits. map as_commit commits.items ≡ history_of_past (reverse past.now)) }
+pub fn history(alloc: Global, past: &[Entry]) -> Result<Vec<Commit>, NoMemory>
+    ensures { IfOk result (λ commits. commits.items ≡ history (reverse past.now)) }
 {
     let mut commits = Vec::new(alloc);
     for (at, entry) in past.iter().enumerate() {
-        if let Entry::Committed { xid, c, inst } = entry {
-            let changes = marked(alloc, *xid, *c, &past[..at])?;
-            let commit = TxnCommit {
-                c: *c,
+        if let Entry::Committed {
+            xid,
+            commit_scn,
+            inst,
+        } = entry
+        {
+            let changes = marked(alloc, xid, *commit_scn, &past[..at])?;
+            let commit = Commit {
+                commit_scn: *commit_scn,
                 inst: *inst,
                 xid: *xid,
-                changes,
+                changes: Sequence::from_vec(changes),
             };
             enter(commit, &mut commits)?;
         }
@@ -84,15 +84,15 @@ pub fn history(alloc: Global, past: &[Entry]) -> Result<Vec<TxnCommit>, NoMemory
 
 /// Adds the changes of the commits up to an SCN, the newest first.
 pub fn add_up_to(
-    s: Scn,
-    commits: &[TxnCommit],
-    changes: &mut Vec<RowChange>,
+    snapshot: Scn,
+    commits: &[Commit],
+    changes: &mut Vec<Change>,
 ) -> Result<(), NoMemory>
-    ensures { OnOk result (map as_change changes.new.items ≡
-        map as_change changes.old.items ++ changes_up_to s.0 (map as_commit commits.now)) }
+    ensures { OnOk result (changes.new.items ≡
+        changes.old.items ++ changes_up_to snapshot commits.now) }
 {
     for commit in commits {
-        if commit.c.0 <= s.0 {
+        if commit.commit_scn <= snapshot {
             changes.extend_from_slice(commit.changes.as_slice())?;
         }
     }
@@ -100,8 +100,8 @@ pub fn add_up_to(
 }
 
 /// All changes of commits, the newest first.
-pub fn changes_in(alloc: Global, commits: &[TxnCommit]) -> Result<Vec<RowChange>, NoMemory>
-    ensures { IfOk result (λ changes. map as_change changes.items ≡ changes_in (map as_commit commits.now)) }
+pub fn changes_in(alloc: Global, commits: &[Commit]) -> Result<Vec<Change>, NoMemory>
+    ensures { IfOk result (λ changes. changes.items ≡ changes_in commits.now) }
 {
     let mut changes = Vec::new(alloc);
     for commit in commits {

@@ -1,13 +1,12 @@
-ghost use Rattle.std.specs.Prelude.{◌≡◌, ◌++◌, List, map, reverse, IfOk};
+ghost use Rattle.std.specs.Prelude.{◌≡◌, ◌++◌, reverse, IfOk};
 ghost use Rattle.journal.specs.History.{changes_up_to, value_by};
 ghost use Rattle.journal.specs.Sees.{is_of, is_home, last_after, last_of, own, own_changes};
-ghost use Rattle.journal.specs.Values.{as_change, as_commit};
 
-use crate::commits::{TxnCommit, add_up_to};
-use crate::deeds::{RowChange, is_open, standing_changes};
-use crate::entry::Entry;
-use crate::past::{StmtStart, home_of, start_of};
+use crate::commits::add_up_to;
+use crate::deeds::{is_open, standing_changes};
+use crate::past::{home_of, start_of};
 use base_types::{InstNo, NoMemory, RowNo, Value, Xid};
+use journal::{Change, Commit, Entry, Start};
 use std::alloc::Global;
 
 /// Whether a statement is of a session, by its last start.
@@ -22,10 +21,10 @@ fn is_of(session: u16, stmt: u32, past: &[Entry]) -> bool
 
 /// Whether a session was last opened on an instance.
 pub fn is_home(session: u16, inst: InstNo, past: &[Entry]) -> bool
-    ensures { result ≡ is_home session inst.0 (reverse past.now) }
+    ensures { result ≡ is_home session inst (reverse past.now) }
 {
     match home_of(session, past) {
-        Some(home) => inst.0 == home.0,
+        Some(home) => inst == home,
         None => false,
     }
 }
@@ -58,17 +57,17 @@ fn own(session: u16, past: &[Entry]) -> Option<Xid>
     ensures { result ≡ own session (reverse past.now) }
 {
     match last_of(session, past) {
-        Some(xid) if is_open(xid, past) => Some(xid),
+        Some(xid) if is_open(&xid, past) => Some(xid),
         _ => None,
     }
 }
 
 /// The changes of a session's own transaction that stand, the newest first.
-fn own_changes(alloc: Global, session: u16, past: &[Entry]) -> Result<Vec<RowChange>, NoMemory>
-    ensures { IfOk result (λ changes. map as_change changes.items ≡ own_changes session (reverse past.now)) }
+fn own_changes(alloc: Global, session: u16, past: &[Entry]) -> Result<Vec<Change>, NoMemory>
+    ensures { IfOk result (λ changes. changes.items ≡ own_changes session (reverse past.now)) }
 {
     match own(session, past) {
-        Some(xid) => standing_changes(alloc, xid, past),
+        Some(xid) => standing_changes(alloc, &xid, past),
         None => Ok(Vec::new(alloc)),
     }
 }
@@ -76,24 +75,24 @@ fn own_changes(alloc: Global, session: u16, past: &[Entry]) -> Result<Vec<RowCha
 /// The changes that a session sees, the newest first and its own before those of the commits.
 pub fn changes_seen(
     alloc: Global,
-    start: StmtStart,
-    commits: &[TxnCommit],
+    start: Start,
+    commits: &[Commit],
     past: &[Entry],
-) -> Result<Vec<RowChange>, NoMemory>
-    ensures { IfOk result (λ changes. map as_change changes.items ≡
-        own_changes start.session (reverse past.now) ++ changes_up_to start.s.0 (map as_commit commits.now)) }
+) -> Result<Vec<Change>, NoMemory>
+    ensures { IfOk result (λ changes. changes.items ≡
+        own_changes start.session (reverse past.now) ++ changes_up_to start.snapshot commits.now) }
 {
     let mut changes = own_changes(alloc, start.session, past)?;
-    add_up_to(start.s, commits, &mut changes)?;
+    add_up_to(start.snapshot, commits, &mut changes)?;
     Ok(changes)
 }
 
 /// What a row holds by changes of which the newest comes first.
-pub fn value_by(changes: &[RowChange], row: RowNo) -> Value
-    ensures { result ≡ value_by (map as_change changes.now) row.0 }
+pub fn value_by(changes: &[Change], row: RowNo) -> Value
+    ensures { result ≡ value_by changes.now row }
 {
     for change in changes {
-        if change.row.0 == row.0 {
+        if change.row == row {
             return change.new;
         }
     }

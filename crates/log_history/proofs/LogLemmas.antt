@@ -101,23 +101,23 @@ next_record bytes rest next records new r n pushed behind all spelled begins is 
 )
 
 -- the log ends with a record cut short
-pub torn_read : (bytes rest : List ℕ) (log : Log) → log.len ≡ length bytes - length rest → log.torn ≡ true → All IsRedo log.records.items → bytes ≡ log_bytes log.records.items ++ rest → 1 ≤ length rest → IsTorn rest → IsRead bytes log
+pub torn_read : (bytes rest : List ℕ) (log : Log) → log.len ≡ length bytes - length rest → log.torn ≡ true → All IsRedo log.records → bytes ≡ log_bytes log.records ++ rest → 1 ≤ length rest → IsTorn rest → IsRead bytes log
 torn_read bytes rest log len torn all spelled long cut = record {
   rest = rest;
-  is_log = log_at_end bytes rest log.records.items all spelled (inr cut);
+  is_log = log_at_end bytes rest log.records all spelled (inr cut);
   ends = inr cut;
-  len = len ∙ place_is bytes rest log.records.items spelled;
+  len = len ∙ place_is bytes rest log.records spelled;
   torn = torn ∙ sym (some_where_long rest long);
 }
 
 -- the log ends with its last record
-pub whole_read : (bytes rest : List ℕ) (log : Log) → log.len ≡ length bytes → log.torn ≡ false → All IsRedo log.records.items → bytes ≡ log_bytes log.records.items ++ rest → rest ≡ [] → IsRead bytes log
+pub whole_read : (bytes rest : List ℕ) (log : Log) → log.len ≡ length bytes → log.torn ≡ false → All IsRedo log.records → bytes ≡ log_bytes log.records ++ rest → rest ≡ [] → IsRead bytes log
 whole_read bytes rest log len torn all spelled none =
-    let whole : bytes ≡ log_bytes log.records.items ++ [] = spelled ∙ ap (λ (t : List ℕ). log_bytes log.records.items ++ t) none in
+    let whole : bytes ≡ log_bytes log.records ++ [] = spelled ∙ ap (λ (t : List ℕ). log_bytes log.records ++ t) none in
     record {
       rest = [];
-      is_log = log_at_end bytes [] log.records.items all whole (inl refl);
+      is_log = log_at_end bytes [] log.records all whole (inl refl);
       ends = inl refl;
-      len = len ∙ ap length (whole ∙ append-nil (log_bytes log.records.items));
+      len = len ∙ ap length (whole ∙ append-nil (log_bytes log.records));
       torn = torn;
     }

@@ -17,11 +17,11 @@ numbers-through c i d j e k first second = grind arith
 
 -- a line that another comes after doesn't come after it
 turned : (a b : HistoryLine) → is_after a b ≡ true → is_after b a ≡ false
-turned a b after = numbers-turned a.c a.inst b.c b.inst after
+turned a b after = numbers-turned a.commit_scn a.inst b.commit_scn b.inst after
 
 -- not to come after goes from line to line
 through : (a b d : HistoryLine) → is_after a b ≡ false → is_after b d ≡ false → is_after a d ≡ false
-through a b d first second = numbers-through a.c a.inst b.c b.inst d.c d.inst first second
+through a b d first second = numbers-through a.commit_scn a.inst b.commit_scn b.inst d.commit_scn d.inst first second
 
 all_at : (P : HistoryLine → Type 0) (lines : List HistoryLine) (n : ℕ) (x : HistoryLine) → n < length lines → x ≡ get_or lines n x
     → AllByRecursion P lines → P x

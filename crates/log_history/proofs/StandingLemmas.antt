@@ -15,7 +15,6 @@ use Rattle.base_types.specs.declared.value.Value.{Value}
 use Rattle.journal.specs.Past.{same_xid}
 use Rattle.journal.proofs.XidLemmas.{same_xid-true}
 use Rattle.log_history.specs.LogHistory.{change_in, changes_in, entered, in_order, is_change, is_commit, is_step_back, line_of, lines_from, row_and_value, takes_back}
-use Rattle.log_history.specs.Logs.{records_of}
 use Rattle.log_history.specs.Standing.{change_for, change_of, group_at, is_of, line_by, lines_by, standing_of, undone_by}
 use Rattle.log_history.specs.declared.changes.StandingChange.{StandingChange}
 use Rattle.log_history.specs.declared.changes.Undone.{Undone}
@@ -127,7 +126,7 @@ lines_same : {S : Type 0} (groups : HashMap ℕ (Vec StandingChange) S) (all : L
 lines_same groups all n [] same = refl
 lines_same groups all n (records ∷ threads) same =
     let line : (r : Redo) → line_by groups n r ≡ line_of all n r = λ r.
-    ap (λ (changes : List (RowNo × Value)). if is_commit r.kind then Some (record { c = r.scn; inst = n; xid = r.xid; changes = changes }) else None) (same r.xid) in
+    ap (λ (changes : List (RowNo × Value)). if is_commit r.kind then Some (record { commit_scn = r.scn; inst = n; xid = r.xid; changes = changes }) else None) (same r.xid) in
     ap (λ (lines : List HistoryLine). lines ++ lines_by groups (suc n) threads) (filter_map-same (line_by groups n) (line_of all n) line records)
     ∙ ap (λ (lines : List HistoryLine). filter_map (line_of all n) records ++ lines) (lines_same groups all (suc n) threads same)
 
@@ -151,10 +150,10 @@ in_order-append sorted [] ys = refl
 in_order-append sorted (x ∷ xs) ys = in_order-append (entered x sorted) xs ys
 
 -- the lines from a thread on are its own and those of the threads behind it
-pub lines_step : {S : Type 0} (standing : HashMap ℕ (Vec StandingChange) S) (sorted : List HistoryLine) (threads : List (Vec Redo)) (i : ℕ) (records : Vec Redo) → i < length threads → records ≡ get_or threads i records
-    → in_order sorted (lines_by standing i (records_of (drop i threads))) ≡ in_order (in_order sorted (filter_map (line_by standing i) records.items)) (lines_by standing (i + 1) (records_of (drop (i + 1) threads)))
+pub lines_step : {S : Type 0} (standing : HashMap ℕ (Vec StandingChange) S) (sorted : List HistoryLine) (threads : List (List Redo)) (i : ℕ) (records : List Redo) → i < length threads → records ≡ get_or threads i records
+    → in_order sorted (lines_by standing i (drop i threads)) ≡ in_order (in_order sorted (filter_map (line_by standing i) records)) (lines_by standing (i + 1) (drop (i + 1) threads))
 lines_step standing sorted threads i records within is =
-    ap (λ (more : List (Vec Redo)). in_order sorted (lines_by standing i (records_of more))) (drop_more threads i records within)
-    ∙ ap (λ (r : Vec Redo). in_order sorted (filter_map (line_by standing i) r.items ++ lines_by standing (suc i) (records_of (drop (i + 1) threads)))) (sym is)
-    ∙ in_order-append sorted (filter_map (line_by standing i) records.items) (lines_by standing (suc i) (records_of (drop (i + 1) threads)))
-    ∙ ap (λ (n : ℕ). in_order (in_order sorted (filter_map (line_by standing i) records.items)) (lines_by standing n (records_of (drop (i + 1) threads)))) (sym (add-one i))
+    ap (λ (more : List (List Redo)). in_order sorted (lines_by standing i more)) (drop_more threads i records within)
+    ∙ ap (λ (r : List Redo). in_order sorted (filter_map (line_by standing i) r ++ lines_by standing (suc i) (drop (i + 1) threads))) (sym is)
+    ∙ in_order-append sorted (filter_map (line_by standing i) records) (lines_by standing (suc i) (drop (i + 1) threads))
+    ∙ ap (λ (n : ℕ). in_order (in_order sorted (filter_map (line_by standing i) records)) (lines_by standing n (drop (i + 1) threads))) (sym (add-one i))

@@ -8,7 +8,7 @@ use Rattle.redo_types.specs.declared.redo.Redo.{Redo}
 use Rattle.redo_record.specs.Front.{log_bytes}
 use Rattle.redo_record.specs.Redo.{IsRedo}
 use Rattle.log_history.specs.LogHistory.{IsLog}
-use Rattle.log_history.specs.Logs.{AreLogs, IsBad, IsEnd, IsFirstWrong, IsNext, IsWrong, IsWrongAt, bytes_of, is_some, records_of, torn_end, torn_ends}
+use Rattle.log_history.specs.Logs.{AreLogs, IsBad, IsEnd, IsFirstWrong, IsNext, IsWrong, IsWrongAt, bytes_of, is_some, torn_end, torn_ends}
 use Rattle.log_history.specs.declared.error.LogError.{LogError}
 use Rattle.log_history.specs.declared.error.LogError.TheVariants.{BadLog, NoMemory}
 
@@ -58,21 +58,18 @@ length-threads (l ∷ logs) [] (r ∷ rests) are = absurd are
 length-threads (l ∷ logs) (t ∷ threads) [] are = absurd are
 
 -- as many threads as logs
-pub as_many : (logs : List (Vec ℕ)) (threads : List (Vec Redo)) (rests : List (List ℕ)) → AreLogs (bytes_of logs) (records_of threads) rests → length threads ≡ length logs
+pub as_many : (logs : List (Vec ℕ)) (threads : List (List Redo)) (rests : List (List ℕ)) → AreLogs (bytes_of logs) threads rests → length threads ≡ length logs
 as_many logs threads rests are =
-    sym (length-map threads (λ (records : Vec Redo). records.items)) ∙ length-threads (bytes_of logs) (records_of threads) rests are ∙ length-map logs (λ (log : Vec ℕ). log.items)
+    length-threads (bytes_of logs) threads rests are ∙ length-map logs (λ (log : Vec ℕ). log.items)
 
 -- each record of each thread is one
-pub all_records : (logs : List (List ℕ)) (threads : List (Vec Redo)) (rests : List (List ℕ)) → AreLogs logs (records_of threads) rests → All (λ (records : Vec Redo). All IsRedo records.items) threads
-all_records logs [] rests are = All-nil (λ (records : Vec Redo). All IsRedo records.items)
+pub all_records : (logs : List (List ℕ)) (threads : List (List Redo)) (rests : List (List ℕ)) → AreLogs logs threads rests → All (All IsRedo) threads
+all_records logs [] rests are = All-nil (All IsRedo)
 all_records (l ∷ logs) (t ∷ threads) (r ∷ rests) are =
-    All-cons (λ (records : Vec Redo). All IsRedo records.items) t threads (All-from_recursion IsRedo t.items are.0.each) (all_records logs threads rests are.2)
+    All-cons (All IsRedo) t threads (All-from_recursion IsRedo t are.0.each) (all_records logs threads rests are.2)
 all_records [] (t ∷ threads) [] are = absurd are
 all_records [] (t ∷ threads) (r ∷ rests) are = absurd are
 all_records (l ∷ logs) (t ∷ threads) [] are = absurd are
-
-pub records_of-push : (threads : List (Vec Redo)) (records : Vec Redo) → records_of (threads ++ records ∷ []) ≡ records_of threads ++ records.items ∷ []
-records_of-push threads records = map-append (λ (records : Vec Redo). records.items) threads (records ∷ [])
 
 -- the bytes of the log at a place
 pub bytes_at : (logs : List (Vec ℕ)) (i : ℕ) (log : Vec ℕ) → i < length logs → log ≡ get_or logs i log → get_or (bytes_of logs) i [] ≡ log.items

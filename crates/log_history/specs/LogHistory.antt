@@ -53,7 +53,7 @@ changes_in all x = filter_map (change_in all x) all
 -- the transaction that a Commit record of a thread ends, with its changes
 abbrev pub line_of : List Redo → ℕ → Redo → Option HistoryLine
 line_of all thread r =
-    if is_commit r.kind then Some (record { c = r.scn; inst = thread; xid = r.xid; changes = changes_in all r.xid }) else None
+    if is_commit r.kind then Some (record { commit_scn = r.scn; inst = thread; xid = r.xid; changes = changes_in all r.xid }) else None
 
 -- the transactions that the Commit records of the threads end, thread by thread, from a thread on
 abbrev pub lines_from : List Redo → ℕ → List (List Redo) → List HistoryLine
@@ -62,7 +62,7 @@ lines_from all thread (records ∷ more) = filter_map (line_of all thread) recor
 
 -- whether a line comes after another: by its SCN, and where these are equal by its thread
 abbrev pub is_after : HistoryLine → HistoryLine → Bool
-is_after a b = nat_lt b.c a.c || a.c == b.c && nat_lt b.inst a.inst
+is_after a b = nat_lt b.commit_scn a.commit_scn || a.commit_scn == b.commit_scn && nat_lt b.inst a.inst
 
 -- Lines are in order: none comes after a later one.
 abbrev pub IsInOrder : List HistoryLine → Type 0

@@ -1,23 +1,22 @@
 -- The logs of all threads, and what is told of them.
-use Rattle.std.specs.Prelude.{◌≡◌, ℕ, zero, suc, ◌⊎◌, List, [], ◌∷◌, ◌++◌, length, map, Bool, true, false}
+use Rattle.std.specs.Prelude.{◌≡◌, ◌≤◌, ℕ, zero, suc, ◌⊎◌, List, [], ◌∷◌, ◌++◌, length, map, Bool, true, false}
 use Rattle.std.specs.Global.{Vec}
 use Rattle.base_types.specs.declared.names.InstNo.{InstNo}
 use Rattle.redo_types.specs.declared.redo.Redo.{Redo}
-use Rattle.redo_record.specs.Front.{IsTorn, log_bytes}
+use Rattle.redo_record.specs.Front.{BeginsWith, IsTorn, log_bytes}
+use Rattle.redo_record.specs.Redo.{redo_bytes}
 use Rattle.log_history.specs.LogHistory.{IsLog}
 use Rattle.log_history.specs.declared.error.LogError.{LogError}
 use Rattle.log_history.specs.declared.error.LogError.TheVariants.{BadLog, NoMemory}
 use Rattle.log_history.specs.declared.reading.Log.{Log}
+use Rattle.log_history.specs.declared.reading.Met.{Met}
+use Rattle.log_history.specs.declared.reading.Met.TheVariants as met
 use Rattle.log_history.specs.declared.reading.Stop.{Stop}
 use Rattle.log_history.specs.declared.reading.Stop.TheVariants as stops
 
 -- the bytes of logs
 abbrev pub bytes_of : List (Vec ℕ) → List (List ℕ)
 bytes_of logs = map (λ log. log.items) logs
-
--- the records of threads
-abbrev pub records_of : List (Vec Redo) → List (List Redo)
-records_of threads = map (λ records. records.items) threads
 
 -- What a log may end with behind its whole records: nothing, or a record cut short.
 abbrev pub IsEnd : List ℕ → Type 0
@@ -70,12 +69,19 @@ abbrev pub is_some : List ℕ → Bool
 is_some [] = false
 is_some (byte ∷ rest) = true
 
+-- What was met at the front of a log's rest: a whole record, which was added, one cut short, or neither.
+abbrev pub TakesNext : List ℕ → List Redo → List Redo → Met → Type 0
+TakesNext rest old new (met.Whole len) =
+    (len ≤ length rest) × ((r : Redo) × (new ≡ old ++ r ∷ []) × BeginsWith rest r × (len ≡ length (redo_bytes r)))
+TakesNext rest old new met.Torn = (new ≡ old) × IsTorn rest
+TakesNext rest old new met.Bad = (new ≡ old) × (IsTorn rest → ⊥) × ((r : Redo) → BeginsWith rest r → ⊥)
+
 -- A log was read: its whole records, how many bytes they have, and whether a record cut short stands behind them.
 pub record IsRead (bytes : List ℕ) (log : Log) : Type 0 where
   pub rest : List ℕ
-  pub is_log : IsLog bytes log.records.items rest
+  pub is_log : IsLog bytes log.records rest
   pub ends : IsEnd rest
-  pub len : log.len ≡ length (log_bytes log.records.items)
+  pub len : log.len ≡ length (log_bytes log.records)
   pub torn : log.torn ≡ is_some rest
 
 -- The records and the rest of a log were added to those of the threads before it.

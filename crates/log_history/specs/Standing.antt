@@ -46,7 +46,7 @@ change_for x s = if same_xid x s.xid then Some (s.row, s.value) else None
 -- the line of a Commit record, with these changes standing
 abbrev pub line_by : {S : Type 0} → HashMap ℕ (Vec StandingChange) S → ℕ → Redo → Option HistoryLine
 line_by standing thread r =
-    if is_commit r.kind then Some (record { c = r.scn; inst = thread; xid = r.xid; changes = filter_map (change_for r.xid) (group_at standing r.xid.wrap) }) else None
+    if is_commit r.kind then Some (record { commit_scn = r.scn; inst = thread; xid = r.xid; changes = filter_map (change_for r.xid) (group_at standing r.xid.wrap) }) else None
 
 -- the lines of the threads from one on
 abbrev pub lines_by : {S : Type 0} → HashMap ℕ (Vec StandingChange) S → ℕ → List (List Redo) → List HistoryLine

@@ -2,10 +2,9 @@ ghost use Rattle.std.specs.Prelude.{◌≡◌, ◌==◌, ◌++◌, ℕ, IfOk, On
 ghost use Rattle.std.specs.List.{All, filter_map, flat_map, list_any};
 ghost use Rattle.redo_record.specs.Redo.{IsDataChange, IsRedo};
 ghost use Rattle.log_history.specs.LogHistory.{is_change, is_step_back, lines_from, row_and_value};
-ghost use Rattle.log_history.specs.Logs.{records_of};
 ghost use Rattle.log_history.specs.Standing.{group_at, is_of, lines_by, standing_of, stands, undone_by};
 
-use base_types::{NoMemory, RowNo, Value, Xid};
+use base_types::{NoMemory, RowNo, Sequence, Value, Xid};
 use redo_types::{DataChange, Redo, RedoKind};
 use std::alloc::Global;
 use std::collections::HashMap;
@@ -59,8 +58,8 @@ fn add_undone(records: &[Redo], undone: &mut Vec<Undone>) -> Result<(), NoMemory
 }
 
 /// What the records of all threads take back.
-fn undone_in(alloc: Global, threads: &[Vec<Redo>]) -> Result<Vec<Undone>, NoMemory>
-    ensures { IfOk result (λ undone. undone.items ≡ flat_map (filter_map undone_by) (records_of threads.now)) }
+fn undone_in(alloc: Global, threads: &[Sequence<Redo>]) -> Result<Vec<Undone>, NoMemory>
+    ensures { IfOk result (λ undone. undone.items ≡ flat_map (filter_map undone_by) threads.now) }
 {
     let mut undone = Vec::new(alloc);
     for records in threads {
@@ -155,12 +154,12 @@ fn add_standing(
 /// The changes of all transactions that stand, in the order of the threads and of the records in each.
 fn standing_in(
     alloc: Global,
-    threads: &[Vec<Redo>],
+    threads: &[Sequence<Redo>],
     undone: &UndoneGroups,
 ) -> Result<Vec<StandingChange>, NoMemory>
-    requires { All (λ records. All IsRedo records.items) threads.now }
+    requires { All (All IsRedo) threads.now }
     ensures { IfOk result (λ standing. standing.items ≡
-        flat_map (filter_map (standing_of undone.now)) (records_of threads.now)) }
+        flat_map (filter_map (standing_of undone.now)) threads.now) }
 {
     let mut standing = Vec::new(alloc);
     for records in threads {
@@ -197,12 +196,12 @@ pub(crate) fn standing_at(groups: &StandingGroups, wrap: u32) -> &[StandingChang
 /// The changes of all transactions that no record takes back. The lines by them are those of the records.
 pub(crate) fn standing_changes(
     alloc: Global,
-    threads: &[Vec<Redo>],
+    threads: &[Sequence<Redo>],
 ) -> Result<StandingGroups, NoMemory>
-    requires { All (λ records. All IsRedo records.items) threads.now }
+    requires { All (All IsRedo) threads.now }
     ensures { IfOk result (λ standing. (n : ℕ) →
-        lines_by standing n (records_of threads.now) ≡
-        lines_from (flat_map (λ records. records) (records_of threads.now)) n (records_of threads.now)) }
+        lines_by standing n threads.now ≡
+        lines_from (flat_map (λ records. records) threads.now) n threads.now) }
 {
     let undone = undone_in(alloc, threads)?;
     let taken = group_undone(alloc, undone.as_slice())?;

@@ -3,14 +3,14 @@ ghost use Rattle.std.specs.List.{All, filter_map};
 ghost use Rattle.redo_types.specs.declared.redo.Redo.{Redo};
 ghost use Rattle.redo_record.specs.Redo.{IsRedo};
 ghost use Rattle.log_history.specs.LogHistory.{IsInOrder, entered, in_order, is_after, is_commit, log_history};
-ghost use Rattle.log_history.specs.Logs.{AreLogs, IsBad, bytes_of, records_of, torn_ends};
+ghost use Rattle.log_history.specs.Logs.{AreLogs, IsBad, bytes_of, torn_ends};
 ghost use Rattle.log_history.specs.Standing.{change_for, line_by, lines_by};
 
 use crate::changes::{StandingChange, StandingGroups, standing_at, standing_changes};
 use crate::error::LogError;
 use crate::line::HistoryLine;
 use crate::reading::{Logs, read_logs};
-use base_types::{InstNo, NoMemory, Xid};
+use base_types::{InstNo, NoMemory, Sequence, Xid};
 use redo_types::{Redo, RedoKind};
 use journal::RowList;
 use std::alloc::Global;
@@ -38,7 +38,7 @@ fn changes_of(alloc: Global, xid: Xid, standing: &[StandingChange]) -> Result<Ro
 fn is_after(a: &HistoryLine, b: &HistoryLine) -> bool
     ensures { result ≡ is_after a.now b.now }
 {
-    b.c.0 < a.c.0 || a.c.0 == b.c.0 && b.inst.0 < a.inst.0
+    b.commit_scn.0 < a.commit_scn.0 || a.commit_scn.0 == b.commit_scn.0 && b.inst.0 < a.inst.0
 }
 
 /// The place of a line among others in order.
@@ -76,7 +76,7 @@ fn enter_thread(
 ) -> Result<(), NoMemory>
     requires { IsInOrder lines.old.items }
     ensures entered { OnOk result (lines.new.items ≡
-        in_order lines.old.items (filter_map (line_by standing.now thread.0) records.now)) }
+        in_order lines.old.items (filter_map (line_by standing.now thread) records.now)) }
     ensures ordered { OnOk result (IsInOrder lines.new.items) }
 {
     for redo in records {
@@ -84,7 +84,7 @@ fn enter_thread(
             let group = standing_at(standing, redo.xid.wrap);
             let changes = changes_of(alloc, redo.xid, group)?;
             let line = HistoryLine {
-                c: redo.scn,
+                commit_scn: redo.scn,
                 inst: thread,
                 xid: redo.xid,
                 changes,
@@ -98,12 +98,12 @@ fn enter_thread(
 /// The lines of all threads in order.
 fn lines_of(
     alloc: Global,
-    threads: &[Vec<Redo>],
+    threads: &[Sequence<Redo>],
     standing: &StandingGroups,
 ) -> Result<Vec<HistoryLine>, NoMemory>
     requires { length threads.now ≤ 8 }
     ensures { IfOk result (λ lines. lines.items ≡
-        in_order [] (lines_by standing.now 0 (records_of threads.now))) }
+        in_order [] (lines_by standing.now 0 threads.now)) }
 {
     let mut lines = Vec::new(alloc);
     for (thread, records) in threads.iter().enumerate() {
@@ -114,10 +114,10 @@ fn lines_of(
 }
 
 /// The history of the records of the threads.
-fn history(alloc: Global, threads: &[Vec<Redo>]) -> Result<Vec<HistoryLine>, NoMemory>
+fn history(alloc: Global, threads: &[Sequence<Redo>]) -> Result<Vec<HistoryLine>, NoMemory>
     requires few { length threads.now ≤ 8 }
-    requires records { All (λ records. All IsRedo records.items) threads.now }
-    ensures { IfOk result (λ lines. lines.items ≡ log_history (records_of threads.now)) }
+    requires records { All (All IsRedo) threads.now }
+    ensures { IfOk result (λ lines. lines.items ≡ log_history threads.now) }
 {
     let standing = standing_changes(alloc, threads)?;
     let lines = lines_of(alloc, threads, &standing)?;

@@ -5,7 +5,7 @@ use journal::RowList;
 #[derive(Debug, Drop)]
 pub struct HistoryLine {
     /// The SCN of its commit.
-    pub c: Scn,
+    pub commit_scn: Scn,
     /// The thread that its Commit record stands in.
     pub inst: InstNo,
     pub xid: Xid,

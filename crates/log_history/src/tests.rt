@@ -51,7 +51,7 @@ fn commit(segment: u8, scn: u8) -> [u8; 88] {
 
 fn tell_line(alloc: Global, line: &HistoryLine) -> Result<String, AllocError> {
     let xid = line.xid;
-    let mut told = format!(in alloc; "{} {} {xid}", line.c.0, line.inst.0)?;
+    let mut told = format!(in alloc; "{} {} {xid}", line.commit_scn.0, line.inst.0)?;
     for (row, value) in line.changes.as_slice() {
         let change = format!(in alloc; " {}={value}", row.0)?;
         told.push_str(change.as_str())?;

@@ -1,7 +1,6 @@
-use crate::cause::Cause;
 use crate::checks::check;
-use crate::entry::{Entry, Journal, RowList};
 use base_types::{InstNo, NoMemory, RowNo, Scn, Value, Xid};
+use journal::{Cause, Entry, Journal, RowList};
 use std::alloc::Global;
 use std::process::Abort;
 use std::str::{FromStr, SplitWhitespace};
@@ -364,7 +363,7 @@ fn entry(rt: &impl Abort, alloc: Global, text: &str) -> Result<Entry, NoMemory> 
         "start" => Entry::Started {
             stmt: number(rt, words.next()),
             session: number(rt, words.next()),
-            s: Scn(number(rt, words.next())),
+            snapshot: Scn(number(rt, words.next())),
         },
         "rows" => Entry::Rows {
             stmt: number(rt, words.next()),
@@ -385,7 +384,7 @@ fn entry(rt: &impl Abort, alloc: Global, text: &str) -> Result<Entry, NoMemory> 
         "mark" => Entry::Marked {
             stmt: number(rt, words.next()),
             xid: xid(rt, words.next()),
-            c: Scn(number(rt, words.next())),
+            commit_scn: Scn(number(rt, words.next())),
         },
         _ => outcome(rt, kind, &mut words),
     };
@@ -397,13 +396,13 @@ fn outcome(rt: &impl Abort, kind: &str, words: &mut SplitWhitespace<'_>) -> Entr
     match kind {
         "commit" => Entry::Committed {
             xid: xid(rt, words.next()),
-            c: Scn(number(rt, words.next())),
+            commit_scn: Scn(number(rt, words.next())),
             inst: InstNo(number(rt, words.next())),
         },
         "ack" => Entry::Acked {
             stmt: number(rt, words.next()),
             xid: xid(rt, words.next()),
-            c: Scn(number(rt, words.next())),
+            commit_scn: Scn(number(rt, words.next())),
         },
         "undo" => Entry::Undone {
             xid: xid(rt, words.next()),

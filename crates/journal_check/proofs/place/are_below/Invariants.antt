@@ -1,6 +1,6 @@
 use Rattle.std.proofs.Common.{◌↔◌, drop}
-use Rattle.journal.specs.Checked.{AreBelow}
-use Rattle.journal.proofs.place.are_below.Given as goal
+use Rattle.journal_check.specs.Checked.{AreBelow}
+use Rattle.journal_check.proofs.place.are_below.Given as goal
 
 -- the rows so far are below
 abbrev pub invariant-loop-item : goal.invariant-loop-item

@@ -1,11 +1,11 @@
 -- Each kind of entry is asked what its own parts say.
-use Rattle.journal.proofs.PlaceLemmas.{iff_trans, not_iff, marked_iff, undone_iff, committed_iff, acked_iff}
-use Rattle.journal.proofs.place.is_good_at.Goals as goal
+use Rattle.journal_check.proofs.PlaceLemmas.{iff_trans, not_iff, marked_iff, undone_iff, committed_iff, acked_iff}
+use Rattle.journal_check.proofs.place.is_good_at.Goals as goal
 
 pub returns-in-Marked : goal.returns-in-Marked
 returns-in-Marked c =
     rw c.in-Marked.is
-    (iff_trans (not_iff c.has_commit.result _ c.has_commit.ensures) (marked_iff _ _ _ c.in-Marked.stmt c.in-Marked.xid c.in-Marked.c))
+    (iff_trans (not_iff c.has_commit.result _ c.has_commit.ensures) (marked_iff _ _ _ c.in-Marked.stmt c.in-Marked.xid c.in-Marked.commit_scn))
 
 pub returns-in-Undone : goal.returns-in-Undone
 returns-in-Undone c =
@@ -14,8 +14,8 @@ returns-in-Undone c =
 
 pub returns-in-Committed : goal.returns-in-Committed
 returns-in-Committed c =
-    rw c.in-Committed.is (iff_trans c.commit_is_proper.ensures (committed_iff _ _ _ c.in-Committed.xid c.in-Committed.c c.in-Committed.inst))
+    rw c.in-Committed.is (iff_trans c.commit_is_proper.ensures (committed_iff _ _ _ c.in-Committed.xid c.in-Committed.commit_scn c.in-Committed.inst))
 
 pub returns-in-Acked : goal.returns-in-Acked
 returns-in-Acked c =
-    rw c.in-Acked.is (iff_trans c.ack_is_proper.ensures (acked_iff _ _ _ c.in-Acked.stmt c.in-Acked.xid c.in-Acked.c))
+    rw c.in-Acked.is (iff_trans c.ack_is_proper.ensures (acked_iff _ _ _ c.in-Acked.stmt c.in-Acked.xid c.in-Acked.commit_scn))

@@ -13,4 +13,4 @@ history-requires-clause-few c =
 
 pub history-requires-clause-records : goal.history-requires-clause-records
 history-requires-clause-records c =
-    subst (λ (threads : List (Vec Redo Global)). All (λ (records : Vec Redo Global). All IsRedo records.items) threads) (sym c.as_slice.ensures.value) (all_records (bytes_of c.args.logs.now) c.in_ok-threads.field-0.threads.items c.in_ok-threads.ensures.ok.0 c.in_ok-threads.ensures.ok.1)
+    subst (λ (threads : List (List Redo)). All (All IsRedo) threads) (sym c.as_slice.ensures.value) (all_records (bytes_of c.args.logs.now) c.in_ok-threads.field-0.threads.items c.in_ok-threads.ensures.ok.0 c.in_ok-threads.ensures.ok.1)

@@ -5,8 +5,8 @@ use Rattle.log_history.proofs.reading.read_log.Given as goal
 
 abbrev pub invariant-loop-rest : goal.invariant-loop-rest
 invariant-loop-rest l = record {
-  each : All IsRedo l.records.items;
-  spelled : l.bytes ≡ log_bytes l.records.items ++ l.rest;
+  each : All IsRedo l.records;
+  spelled : l.bytes ≡ log_bytes l.records ++ l.rest;
 }
 
 abbrev pub decreases-loop-rest : goal.decreases-loop-rest
