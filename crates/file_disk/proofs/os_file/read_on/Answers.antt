@@ -1,6 +1,6 @@
 use Rattle.std.proofs.Common.{rules}
 use Rattle.file_disk.proofs.Room.{reads_piece}
-use Rattle.file_disk.proofs.disk_file.read_on.Goals as goal
+use Rattle.file_disk.proofs.os_file.read_on.Goals as goal
 
 pub loop-count-preserved : goal.loop-count-preserved
 loop-count-preserved g c = record {

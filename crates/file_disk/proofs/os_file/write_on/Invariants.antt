@@ -1,6 +1,6 @@
 use Rattle.std.proofs.Common.{◌-◌, ◌≤◌, length, take}
 use Rattle.std.specs.Io.KnownBytes.{Appends}
-use Rattle.file_disk.proofs.disk_file.write_on.Given as goal
+use Rattle.file_disk.proofs.os_file.write_on.Given as goal
 
 -- the first bytes are written
 abbrev pub invariant-loop-count : goal.invariant-loop-count

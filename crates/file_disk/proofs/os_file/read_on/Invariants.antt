@@ -1,6 +1,6 @@
 use Rattle.std.proofs.Common.{◌≡◌, ◌-◌, ◌≤◌, length, take}
 use Rattle.std.specs.Io.KnownBytes.{Consumes}
-use Rattle.file_disk.proofs.disk_file.read_on.Given as goal
+use Rattle.file_disk.proofs.os_file.read_on.Given as goal
 
 -- the first bytes of the room are those that were read
 abbrev pub invariant-loop-count : goal.invariant-loop-count
