@@ -24,7 +24,7 @@ pub record Lined (parts : ScriptParts) (done : List (ℕ × Item)) (last : ℕ) 
   pub unended : (x : Xid) → wrap_at slots x.slot < x.wrap → is_over x past ≡ false
 
 abbrev pub IsLined : ScriptParts → List (ℕ × Item) → ℕ → Node → Type 0
-IsLined parts done last node = Lined parts done last (reverse node.journal) node.slots
+IsLined parts done last node = Lined parts done last node.journal node.slots
 
 -- the number of the last of these lines, or what was there before without one
 abbrev pub last_line : ℕ → List (ℕ × Item) → ℕ
