@@ -52,7 +52,7 @@ impl fmt::Display for CommitText<'_> {
 
     fn fmt<W: fmt::Write>(&self, f: &mut fmt::Formatter<W>) -> fmt::Result {
         let line = self.0;
-        let c = line.c.0;
+        let c = line.commit_scn.0;
         let inst = line.inst.0;
         let xid = line.xid;
         let changes = RowsText(&line.changes);
