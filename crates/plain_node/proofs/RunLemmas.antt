@@ -1,5 +1,5 @@
 -- What a line leaves of the node's clock.
-use Rattle.std.proofs.Common.{◌≡◌, ◌∙◌, ℕ, ◌+◌, ◌<◌, ◌≤◌, List, [], ◌∷◌, ◌++◌, Option, Some, None, MatchOption, Result, Ok, Err, length, reverse, refl, ap, arith}
+use Rattle.std.proofs.Common.{◌≡◌, ◌∙◌, ℕ, ◌+◌, ◌<◌, ◌≤◌, List, [], ◌∷◌, Option, Some, None, MatchOption, Result, Ok, Err, length, refl, ap, arith}
 use Rattle.std.specs.Prelude.{IfSome, OnOk}
 use Rattle.std.proofs.lemmas.List.Elements.{All-nil, All-cons}
 use Rattle.script_text.specs.declared.item.Item.{Item}

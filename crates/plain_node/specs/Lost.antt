@@ -2,7 +2,6 @@
 use Rattle.std.specs.Prelude.{ℕ, ◌+◌, ◌<◌, ◌∷◌, length, All, IfSome, false, ◌≡◌}
 use Rattle.base_types.specs.declared.names.Xid.{Xid}
 use Rattle.journal.specs.declared.cause.Cause.TheVariants.{Lost}
-use Rattle.journal.specs.declared.entry.Entry.{Entry}
 use Rattle.journal.specs.declared.entry.Entry.TheVariants.{Committed, Ended, Marked, Refused}
 use Rattle.journal.specs.Good.{GoodJournal, GoodRows}
 use Rattle.journal.specs.Past.{Past, Each}

@@ -1,5 +1,5 @@
 -- What a run over a disk leaves.
-use Rattle.std.specs.Prelude.{◌≡◌, ◌≤◌, ◌⊎◌, ℕ, List, [], length, if◌then◌else◌, true, false, Option, IsSomeAnd}
+use Rattle.std.specs.Prelude.{◌≡◌, ◌≤◌, List, [], length, if◌then◌else◌, true, false, Option, IsSomeAnd}
 use Rattle.rac_disk.specs.State.{State, IsCalm}
 use Rattle.rac_disk.specs.Content.{Content}
 use Rattle.journal.specs.declared.entry.Entry.{Entry}

@@ -17,9 +17,9 @@ ghost use Rattle.plain_node.specs.RedoSize.{IsMeasured, redo_size};
 ghost use Rattle.plain_node.specs.Runs.{CanRun, IsSound, IsProper, IsNamed};
 
 use crate::engine::{Engine, Stop};
-use rac_disk::SharedDisk;
 use base_types::NoMemory;
 use journal::Journal;
+use rac_disk::SharedDisk;
 use script_text::{Item, Script, Stmt, Wave, Waves};
 use std::alloc::Global;
 
