@@ -1,15 +1,16 @@
 -- What a run over a disk leaves.
-use Rattle.std.specs.Prelude.{◌≡◌, ◌≤◌, List, [], length, if◌then◌else◌, true, false, Option, IsSomeAnd}
+use Rattle.std.specs.Prelude.{◌≡◌, ◌≤◌, [], length, if◌then◌else◌, true, false, IfSome, IsSomeAnd}
 use Rattle.rac_disk.specs.State.{State, IsCalm}
-use Rattle.rac_disk.specs.Content.{Content}
-use Rattle.journal.specs.declared.entry.Entry.{Entry}
+use Rattle.rac_disk.specs.Content.{Content, room_at}
+use Rattle.journal.specs.Past.{Past}
 use Rattle.script_text.specs.Lines.{AreAnswered}
 use Rattle.script_text.specs.Reading.{items_of}
 use Rattle.script_text.specs.ScriptParts.{ScriptParts}
 use Rattle.plain_node.specs.declared.run.Ran.{Ran}
 use Rattle.plain_node.specs.Ends.{causes_in, ends_in, fault_cause, fault_end}
-use Rattle.plain_node.specs.Engine.{HasCause, HoldsLog, LogsTell}
+use Rattle.plain_node.specs.Engine.{HasCause, HoldsLog, IsOneFault, LogsTell}
 use Rattle.plain_node.specs.Lost.{IsGoodSoFar}
+use Rattle.plain_node.specs.RedoSize.{redo_size}
 
 -- no log has a byte
 abbrev pub HasEmptyLogs : Content → Type 0
@@ -27,5 +28,11 @@ pub record IsRan (parts : ScriptParts) (old new : State) (ran : Ran) : Type 0 wh
   pub refused : causes_in ran.journal ≡ if ran.faulted then fault_cause else []
 
 -- The logs on the disk, which were empty, tell the history of the journal, where one call failed at most.
-abbrev pub Tells : Option Content → Option Content → Type 0 → List Entry → Type 0
-Tells disk disk_now one_fault journal = IsSomeAnd disk HasEmptyLogs → one_fault → IsSomeAnd disk_now (λ it. LogsTell it journal)
+abbrev pub Tells : State → State → Past → Type 0
+Tells old new journal =
+    IsSomeAnd old.told HasEmptyLogs → IsOneFault old new → IsSomeAnd new.told (λ it. LogsTell it journal)
+
+-- No append met a full log where the first log, which was empty as the others, has room for all redo of the run.
+abbrev pub IsFullForRedo : State → State → Past → Type 0
+IsFullForRedo old new journal =
+    IfSome old.told (λ it. HasEmptyLogs it → redo_size journal ≤ room_at it 0 → new.full ≡ old.full)

@@ -1,5 +1,4 @@
 ghost use Rattle.std.specs.Prelude.{◌≡◌, ◌≢◌, ◌<◌, ◌≤◌, ◌⊎◌, ℕ, List, [], ◌∷◌, ◌++◌, Option, None, true, false, IfOk, IfSome, IsErrOf, IsSomeAnd, OnOk, length};
-ghost use Rattle.rac_disk.specs.Content.{room_at};
 ghost use Rattle.rac_disk.specs.State.{IsCalm};
 ghost use Rattle.journal.specs.Good.{Range};
 ghost use Rattle.script_text.specs.declared.item.Item.{Item};
@@ -12,7 +11,7 @@ ghost use Rattle.script_text.specs.Asked.{range_asked, asked};
 ghost use Rattle.plain_node.specs.Lined.{IsLined, IsNext, AreNext, IsRight, NamesBelow, last_line};
 ghost use Rattle.plain_node.specs.Engine.{CanGo, HasCause, IsCutLine, IsKept, IsOneFault, LogsTell};
 ghost use Rattle.plain_node.specs.Lost.{IsLostSoFar};
-ghost use Rattle.plain_node.specs.Ran.{HasEmptyLogs, IsRan, Tells};
+ghost use Rattle.plain_node.specs.Ran.{IsFullForRedo, IsRan, Tells};
 ghost use Rattle.plain_node.specs.RedoSize.{IsMeasured, redo_size};
 ghost use Rattle.plain_node.specs.Runs.{CanRun, IsSound, IsProper, IsNamed};
 
@@ -168,7 +167,9 @@ fn run_waves<D: SharedDisk>(
 }
 
 /// Runs a script over a disk whose logs are empty, and gives the journal of the run. The first fault of
-/// the disk ends it.
+/// the disk ends it. An `Err` says that memory ran out.
+///
+/// The script is one for one session: it opens session 0 on instance 0, and has gets, puts and commits of it.
 pub fn run_script<D: SharedDisk>(
     alloc: Global,
     script: &Script,
@@ -177,10 +178,8 @@ pub fn run_script<D: SharedDisk>(
     requires well_formed { IsWellFormed script.now }
     requires one_session { list_all (λ line. is_for_one_session line.1) (items_of script.now) ≡ true }
     ensures ran { IfOk result (IsRan script.now (D.state disk.old) (D.state disk.new)) }
-    ensures tells { IfOk result (λ ran. Tells (D.state disk.old).told (D.state disk.new).told
-        (IsOneFault (D.state disk.old) (D.state disk.new)) ran.journal) }
-    ensures full { IfOk result (λ ran. IfSome (D.state disk.old).told (λ it.
-        HasEmptyLogs it → redo_size ran.journal ≤ room_at it 0 → (D.state disk.new).full ≡ (D.state disk.old).full)) }
+    ensures tells { IfOk result (λ ran. Tells (D.state disk.old) (D.state disk.new) ran.journal) }
+    ensures full { IfOk result (λ ran. IsFullForRedo (D.state disk.old) (D.state disk.new) ran.journal) }
 {
     let mut engine = Engine::new(alloc)?;
     match run_waves(&mut engine, alloc, disk, script.waves()) {
