@@ -1,1 +1,2 @@
+pub mod LogFiles
 mod Room

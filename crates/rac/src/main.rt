@@ -65,7 +65,7 @@ fn run(rt: &HostRuntime, words: &[String]) -> Exit
     ensures note { NoteFits result.note result.status }
 {
     match folder_named(rt, words) {
-        Ok(Some(folder)) => match FileDisk::at(rt, folder.as_str(), BLOCKS) {
+        Ok(Some(folder)) => match FileDisk::at(rt, folder.as_str()) {
             Ok(mut disk) => call(rt, words, &mut disk),
             Err(NoMemory) => Exit::without_run(rt.alloc(), 7, Note::Nothing),
         },

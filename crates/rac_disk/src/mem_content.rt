@@ -68,6 +68,14 @@ impl MemContent {
         self.logs[usize::from(thread.0)].bytes()
     }
 
+    /// How many bytes more a thread's log has room for.
+    pub fn free(&self, thread: InstNo) -> usize
+        requires { thread < 8 }
+        ensures { result ≡ free_at self.now thread }
+    {
+        self.logs[usize::from(thread.0)].free()
+    }
+
     /// Appends as many first bytes of a piece to a thread's log as there is room for; whether these are all.
     pub fn append(&mut self, thread: InstNo, piece: &[u8]) -> bool
         requires { thread < 8 }

@@ -40,13 +40,20 @@ impl MemLog {
         self.bytes.as_slice()
     }
 
+    /// How many bytes more it has room for.
+    pub fn free(&self) -> usize
+        ensures { result ≡ self.now.room - length self.now.bytes }
+    {
+        self.room - self.bytes.len()
+    }
+
     /// Appends as many first bytes of a piece as there is room for; whether these are all.
     pub fn append(&mut self, piece: &[u8]) -> bool
         ensures whole { result ≡ nat_le (length piece.now) (self.old.room - length self.old.bytes) }
         ensures after { self.new ≡ record self.old { bytes = self.old.bytes ++ take (self.old.room - length self.old.bytes) piece.now } }
         ensures within { length self.new.bytes ≤ self.new.room }
     {
-        let free = self.room - self.bytes.len();
+        let free = self.free();
         let count = free.min(piece.len());
         self.bytes.extend_from_slice(&piece[..count]).unwrap();
         piece.len() <= free

@@ -1,0 +1,146 @@
+//! Reading the files of a disk whole.
+
+ghost use Rattle.std.specs.Prelude.{◌≡◌, ◌<◌, ◌*◌, length, IfOk};
+ghost use Rattle.rac_disk.specs.Content.{IsDisk};
+
+use crate::disk_file::DiskFile;
+use base_types::{BlockNo, InstNo};
+use rac_disk::{Failed, MemContent};
+
+/// The blocks of a disk.
+pub const BLOCKS: u16 = 200;
+
+/// The bytes of a block.
+pub const BLOCK_BYTES: u64 = 512;
+
+/// The threads of a disk.
+pub const THREADS: u8 = 8;
+
+/// The bytes of a control entry.
+pub const ENTRY_BYTES: u64 = 32;
+
+/// Where a block stands in the file of blocks.
+pub fn block_place(block: BlockNo) -> u64
+    ensures { result ≡ block * 512 }
+{
+    u64::from(block.0) * BLOCK_BYTES
+}
+
+/// Where a thread's entry stands in the file of control entries.
+pub fn entry_place(thread: InstNo) -> u64
+    ensures { result ≡ thread * 32 }
+{
+    u64::from(thread.0) * ENTRY_BYTES
+}
+
+/// Reads all blocks. It fails where the file has more or fewer.
+pub fn read_blocks<F: DiskFile>(file: &mut F, content: &mut MemContent) -> Result<(), Failed>
+    requires { IsDisk content.old }
+    ensures { IsDisk content.new }
+{
+    if file.len()? != u64::from(BLOCKS) * BLOCK_BYTES {
+        return Err(Failed);
+    }
+    for block in 0..BLOCKS {
+        read_block(file, content, BlockNo(block))?;
+    }
+    Ok(())
+}
+
+fn read_block<F: DiskFile>(
+    file: &mut F,
+    content: &mut MemContent,
+    block: BlockNo,
+) -> Result<(), Failed>
+    requires block { block < 200 }
+    requires is_disk { IsDisk content.old }
+    ensures { IsDisk content.new }
+{
+    let mut bytes = [0; 512];
+    if file.read(block_place(block), &mut bytes)? < 512 {
+        return Err(Failed);
+    }
+    content.write_block(block, &bytes);
+    Ok(())
+}
+
+/// Reads all control entries. It fails where the file has more or fewer.
+pub fn read_controls<F: DiskFile>(file: &mut F, content: &mut MemContent) -> Result<(), Failed>
+    requires { IsDisk content.old }
+    ensures { IsDisk content.new }
+{
+    if file.len()? != u64::from(THREADS) * ENTRY_BYTES {
+        return Err(Failed);
+    }
+    for thread in 0..THREADS {
+        read_control(file, content, InstNo(thread))?;
+    }
+    Ok(())
+}
+
+fn read_control<F: DiskFile>(
+    file: &mut F,
+    content: &mut MemContent,
+    thread: InstNo,
+) -> Result<(), Failed>
+    requires thread { thread < 8 }
+    requires is_disk { IsDisk content.old }
+    ensures { IsDisk content.new }
+{
+    let mut bytes = [0; 32];
+    if file.read(entry_place(thread), &mut bytes)? < 32 {
+        return Err(Failed);
+    }
+    content.write_control(thread, &bytes);
+    Ok(())
+}
+
+/// Reads all logs. It fails where one is longer than its room.
+pub fn read_logs<F: DiskFile>(files: &mut [F], content: &mut MemContent) -> Result<(), Failed>
+    requires files { length files.old ≡ 8 }
+    requires is_disk { IsDisk content.old }
+    ensures { IsDisk content.new }
+{
+    for thread in 0..THREADS {
+        read_log(&mut files[usize::from(thread)], content, InstNo(thread))?;
+    }
+    Ok(())
+}
+
+fn read_log<F: DiskFile>(
+    file: &mut F,
+    content: &mut MemContent,
+    thread: InstNo,
+) -> Result<(), Failed>
+    requires thread { thread < 8 }
+    requires is_disk { IsDisk content.old }
+    ensures { IsDisk content.new }
+{
+    let len = file.len()?;
+    let mut left = len;
+    while left > 0 {
+        let count = read_piece(file, content, thread, len - left)?;
+        left = left.saturating_sub(count);
+    }
+    Ok(())
+}
+
+// Reads a piece of a log from a place on; how many bytes it has, at least one.
+fn read_piece<F: DiskFile>(
+    file: &mut F,
+    content: &mut MemContent,
+    thread: InstNo,
+    at: u64,
+) -> Result<u64, Failed>
+    requires thread { thread < 8 }
+    requires is_disk { IsDisk content.old }
+    ensures some { IfOk result (λ count. 0 < count) }
+    ensures is_disk { IsDisk content.new }
+{
+    let mut piece = [0; 4096];
+    let count = file.read(at, &mut piece)?;
+    if count == 0 || !content.append(thread, &piece[..count]) {
+        return Err(Failed);
+    }
+    Ok(count as u64)
+}
