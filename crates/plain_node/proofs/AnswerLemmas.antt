@@ -1,5 +1,5 @@
 -- A line that a fault cut short leaves a good journal, which the log tells.
-use Rattle.std.proofs.Common.{◌≡◌, ◌∙◌, ℕ, inl, inr, List, map, reverse, true, Option, Some, None, is_some, sym, ap}
+use Rattle.std.proofs.Common.{◌≡◌, ℕ, inl, inr, List, true, Option, Some, None, is_some}
 use Rattle.std.specs.Prelude.{IsSomeAnd}
 use Rattle.rac_disk.specs.Content.{Content}
 use Rattle.script_text.specs.declared.item.Item.{Item}
@@ -11,7 +11,6 @@ use Rattle.script_text.specs.ScriptParts.{ScriptParts}
 use Rattle.plain_node.specs.declared.node.Node.{Node}
 use Rattle.plain_node.specs.Engine.{IsCutCommit, IsCutLine, LogsTell}
 use Rattle.plain_node.specs.Lined.{IsNext, IsRight, last_line}
-use Rattle.plain_node.specs.Logged.{line_of_commit}
 use Rattle.plain_node.specs.Lost.{IsLostSoFar, lost}
 use Rattle.plain_node.specs.Runs.{IsPlain}
 use Rattle.plain_node.proofs.LostLemmas.{lost-entered, lost-marked, lost-started}

@@ -14,7 +14,6 @@ use Rattle.redo_record.specs.Front.{AreWhole, log_bytes}
 use Rattle.redo_thread.specs.Thread.{ThreadState, appended, end_of}
 use Rattle.plain_redo.specs.Records.{change_record}
 use Rattle.log_history.specs.LogHistory.{log_history}
-use Rattle.journal.specs.declared.entry.Entry.TheVariants.{Started}
 use Rattle.journal.specs.Good.{Range}
 use Rattle.journal.specs.History.{history}
 use Rattle.journal.specs.declared.deeds.Commit.{Commit}

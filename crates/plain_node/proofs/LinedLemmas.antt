@@ -1,6 +1,6 @@
 -- Each entry that the node tells is what its line asks.
 use Rattle.std.proofs.Common.{◌≡◌, ◌∙◌, ℕ, ◌<◌, ◌≤◌, List, [], ◌∷◌, ◌++◌, Bool, true, false, cond, ◌||◌, Option, Some, None, IsSome, IfSome, MatchOption, refl, ap, sym, subst, arith, is_some}
-use Rattle.std.specs.Option.{option_and_then, option_map}
+use Rattle.std.specs.Option.{option_and_then}
 use Rattle.std.proofs.lemmas.Bool.{eq-eqb}
 use Rattle.base_types.specs.declared.names.Xid.{Xid}
 use Rattle.base_types.specs.declared.names.RowNo.{RowNo}

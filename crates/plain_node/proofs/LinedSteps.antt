@@ -1,11 +1,11 @@
 -- Each statement that the node answers is what its line asks.
-use Rattle.std.proofs.Common.{◌≡◌, ◌∙◌, ℕ, ◌+◌, ◌<◌, ◌≤◌, List, [], ◌∷◌, ◌++◌, true, false, Option, Some, None, MatchOption, refl, arith, length, is_some, reverse}
+use Rattle.std.proofs.Common.{◌≡◌, ◌∙◌, ℕ, ◌+◌, ◌<◌, ◌≤◌, List, [], ◌∷◌, ◌++◌, true, false, Option, Some, None, MatchOption, refl, arith, length, is_some}
 use Rattle.base_types.specs.declared.names.Xid.{Xid}
 use Rattle.base_types.specs.declared.names.RowNo.{RowNo}
 use Rattle.base_types.specs.declared.names.Scn.{Scn}
 use Rattle.base_types.specs.declared.names.InstNo.{InstNo}
 use Rattle.base_types.specs.declared.value.Value.{Value}
-use Rattle.journal.specs.declared.entry.Entry.TheVariants.{Opened, Started, Rows, Changed, Marked, Committed, Acked, Plain}
+use Rattle.journal.specs.declared.entry.Entry.TheVariants.{Started}
 use Rattle.journal.specs.Good.{Range}
 use Rattle.script_text.specs.declared.item.Item.{Item}
 use Rattle.script_text.specs.declared.item.Item.TheVariants.{Session}

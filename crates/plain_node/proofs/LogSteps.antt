@@ -16,9 +16,8 @@ use Rattle.journal.specs.Past.{Past, same_xid}
 use Rattle.journal.specs.Standing.{changes_of, standing}
 use Rattle.journal.specs.declared.deeds.Change.{Change}
 use Rattle.journal.specs.Stood.{stood, is_commit}
-use Rattle.journal.specs.declared.entry.Entry.TheVariants.{Opened, Started, Rows, Plain, Changed, Marked, Committed, Acked, Ended, Refused}
-use Rattle.journal.specs.declared.cause.Cause.TheVariants.{Lost}
-use Rattle.journal.specs.Good.{Range, listed}
+use Rattle.journal.specs.declared.entry.Entry.TheVariants.{Started, Changed, Marked, Committed, Acked}
+use Rattle.journal.specs.Good.{Range}
 use Rattle.journal.specs.History.{history}
 use Rattle.journal.specs.declared.deeds.Commit.{Commit}
 use Rattle.journal.proofs.XidLemmas.{same_xid-refl, same_xid-true}
@@ -28,10 +27,10 @@ use Rattle.plain_node.specs.Logged.{Logged, WaitsFor, line_of_commit, lines_in, 
 use Rattle.plain_node.specs.Runs.{IsSound, IsProper}
 use Rattle.plain_node.specs.Slots.{wrap_at, next_xid, IsLeastUsed}
 use Rattle.plain_node.specs.Sound.{Parts, Sound, parts_of, as_pending}
-use Rattle.plain_node.specs.Steps.{IsOwn, begun, changed, ended_by, got, opened, started, told, value_in}
-use Rattle.plain_node.specs.Lost.{entered, lost, marked}
+use Rattle.plain_node.specs.Steps.{IsOwn, begun, changed, ended_by, opened, started}
+use Rattle.plain_node.specs.Lost.{entered, marked}
 use Rattle.plain_node.proofs.LogLists.{All-append, All-map, All-second, Falls-history, NoneBack, log_history-of_one, changes_for, changes_for-others, changes_in-more, lines-first, lines-more, reverse_first}
-use Rattle.plain_node.proofs.LogLemmas.{EndsPass-stood, Logged-opened, Logged-plain, Logged-rows, Logged-started, lines-durable, logs-tell}
+use Rattle.plain_node.proofs.LogLemmas.{EndsPass-stood, Logged-opened, Logged-started}
 use Rattle.plain_node.proofs.SoundLemmas.{history-committed, own_changes-own, wrap_at-ended}
 use Rattle.plain_node.proofs.StepLemmas.{IsSound-started, pending-none, reverse_push, wrap_at-begun, wrap_at-taken}
 

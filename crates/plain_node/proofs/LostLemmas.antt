@@ -11,8 +11,6 @@ use Rattle.journal.specs.declared.cause.Cause.TheVariants.{Lost}
 use Rattle.journal.specs.declared.entry.Entry.{Entry}
 use Rattle.journal.specs.declared.entry.Entry.TheVariants.{Started, Marked, Committed, Acked, Ended, Refused}
 use Rattle.journal.specs.Past.{Past, Each, start_of}
-use Rattle.journal.specs.History.{history}
-use Rattle.journal.specs.Sees.{own_changes}
 use Rattle.journal.specs.Stood.{stood, is_commit}
 use Rattle.journal.specs.Good.{GoodJournal, GoodRows, Range}
 use Rattle.script_text.specs.declared.item.Item.{Item}

@@ -1,6 +1,6 @@
 -- Each entry that the node tells keeps commits, starts and locks in order.
 use Rattle.std.proofs.Common.{◌≡◌, ◌∙◌, ℕ, ◌+◌, ◌<◌, ◌≤◌, List, [], ◌∷◌, ◌++◌, Bool, true, false, cond, max, ◌&&◌, ◌||◌, ◌==◌, Option, Some, None, unwrap_or, IsSomeAnd, IfSome, refl, ap, sym, subst, arith, is_some}
-use Rattle.std.specs.Option.{option_map_or, option_map}
+use Rattle.std.specs.Option.{option_map_or}
 use Rattle.std.specs.List.{list_any}
 use Rattle.std.proofs.lemmas.Bool.{eq-eqb, ne_eqb, le-leb}
 use Rattle.base_types.specs.declared.names.Xid.{Xid}

@@ -1,9 +1,8 @@
 -- The redo that the engine has made is what its journal stands for, and so what the first log has to have room for.
-use Rattle.std.proofs.Common.{◌≡◌, ◌∙◌, ℕ, ◌+◌, ◌≤◌, ◌⊎◌, inl, inr, List, [], ◌∷◌, ◌++◌, length, false, Option, Some, None, refl, ap, subst, arith, add-zero, add_comm}
+use Rattle.std.proofs.Common.{◌≡◌, ◌∙◌, ℕ, ◌+◌, ◌≤◌, ◌⊎◌, inl, inr, List, [], ◌∷◌, ◌++◌, length, Option, Some, None, refl, ap, subst, arith, add-zero, add_comm}
 use Rattle.std.specs.Prelude.{IfSome, MatchOption, slice_index_or, slice_set}
 use Rattle.std.proofs.lemmas.List.{get_or-set_same, length-append}
-use Rattle.std.proofs.lemmas.List.Sums.{sum_by_push}
-use Rattle.base_types.specs.declared.names.InstNo.{InstNo}
+use Rattle.std.proofs.lemmas.List.Sums.{sum_by-cons}
 use Rattle.base_types.specs.declared.names.RowNo.{RowNo}
 use Rattle.base_types.specs.declared.names.Xid.{Xid}
 use Rattle.redo_types.specs.declared.redo.Redo.{Redo}
@@ -14,18 +13,20 @@ use Rattle.rac_disk.specs.Content.{Content, IsDisk, LogState, log_at, no_log, ro
 use Rattle.redo_record.specs.Redo.{IsRedo, length_of, redo_bytes}
 use Rattle.redo_record.proofs.RecordLemmas.{record_size}
 use Rattle.redo_thread.specs.Thread.{ThreadState, appended, end_of, forced}
-use Rattle.journal.specs.declared.cause.Cause.TheVariants.{Lost}
 use Rattle.journal.specs.declared.entry.Entry.{Entry}
-use Rattle.journal.specs.declared.entry.Entry.TheVariants.{Acked, Changed, Committed, Ended, Marked, Opened, Refused, Rows, Started}
-use Rattle.journal.specs.Good.{listed}
+use Rattle.journal.specs.declared.entry.Entry.TheVariants.{Changed, Marked}
 use Rattle.plain_node.specs.declared.engine.Engine.{Engine}
 use Rattle.plain_node.specs.declared.node.Node.{Node}
 use Rattle.plain_node.specs.Engine.{Ends, MadeRoom, next_commit}
-use Rattle.plain_node.specs.Lost.{entered, lost, marked}
+use Rattle.plain_node.specs.Lost.{entered, marked}
 use Rattle.plain_node.specs.Ran.{HasEmptyLogs}
-use Rattle.plain_node.specs.RedoSize.{HasMade, HasRoom, IsMeasured, redo_size}
+use Rattle.plain_node.specs.RedoSize.{HasMade, HasRoom, IsMeasured, redo_size, redo_size_of}
 use Rattle.plain_node.specs.Slots.{IsLeastUsed, next_xid}
-use Rattle.plain_node.specs.Steps.{IsOwn, begun, changed, ended_by, got, opened, started, told, value_in}
+use Rattle.plain_node.specs.Steps.{IsOwn, begun, changed, started, told}
+
+-- one more entry of a journal
+redo_size-more : (e : Entry) (journal : List Entry) → redo_size (e ∷ journal) ≡ redo_size journal + redo_size_of e
+redo_size-more e journal = sum_by-cons redo_size_of e journal ∙ add_comm (redo_size_of e) (redo_size journal)
 
 -- the journal of a node that takes a transaction, or begins one
 own-journal : (old mid : Node) (x : Xid) → IsOwn old x mid → mid.journal ≡ old.journal
@@ -138,9 +139,8 @@ module _ (room : ℕ) where
       where
         size : redo_size now.node.journal ≡ redo_size old.node.journal + 236
         size =
-            ap (λ (it : Node). redo_size it.journal) node
-            ∙ ap (λ (journal : List Entry). 236 + redo_size journal) (own-journal (started old.node n z) mid x own)
-            ∙ add_comm 236 (redo_size old.node.journal)
+            ap (λ (it : Node). redo_size it.journal) node ∙ redo_size-more (Changed n x row found value) mid.journal
+            ∙ ap (λ (journal : List Entry). redo_size journal + 236) (own-journal (started old.node n z) mid x own)
 
     -- a fault met the force of a commit record: there was room for what waited
     pub cut-room : (n : ℕ) (x : Xid) (marked_node now : Node) (r : Redo) (thread_full : ThreadState)
@@ -150,7 +150,7 @@ module _ (room : ℕ) where
     cut-room n x marked_node now r thread_full marked_is kind is_redo full_is either few =
         has-room (redo_size old.node.journal + 88) disk_then thread_full
         (rw full_is (more-made 88 r is_redo (ap length_of kind)))
-        (subst (λ (k : ℕ). k ≤ room) (by_end either ∙ rw marked_is (add_comm 88 (redo_size old.node.journal))) few)
+        (subst (λ (k : ℕ). k ≤ room) (by_end either ∙ rw marked_is (redo_size-more (Marked n x (old.node.scn + 1)) old.node.journal)) few)
       where
         by_end : (now ≡ marked_node) ⊎ (now ≡ entered marked_node x) → redo_size now.journal ≡ redo_size marked_node.journal
         by_end (inl is) = ap (λ (it : Node). redo_size it.journal) is
@@ -162,7 +162,7 @@ module _ (room : ℕ) where
   commit-measured disk disk_now old now n x ends has =
       let r = next_commit old x in
       let full = more-made disk ends.room.disk_then old ends.room.thread_then ends.room.made has 88 r ends.is_redo refl in
-      rw (ends.thread, ends.node, add_comm 88 (redo_size old.node.journal))
+      rw (ends.thread, ends.node, redo_size-more (Marked n x (old.node.scn + 1)) old.node.journal)
       (made-forced (redo_size old.node.journal + 88) ends.room.disk_then disk_now (appended ends.room.thread_then r) ends.written full)
 
 -- a new engine has made no redo

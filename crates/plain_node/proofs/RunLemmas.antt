@@ -1,12 +1,12 @@
 -- What a line leaves of the node's clock.
-use Rattle.std.proofs.Common.{◌≡◌, ◌∙◌, ℕ, ◌+◌, ◌<◌, ◌≤◌, List, [], ◌∷◌, ◌++◌, Option, Some, None, MatchOption, Result, Ok, Err, length, reverse, refl, ap, arith}
+use Rattle.std.proofs.Common.{◌≡◌, ◌∙◌, ℕ, ◌+◌, ◌<◌, ◌≤◌, List, [], ◌∷◌, Option, Some, None, MatchOption, Result, Ok, Err, length, refl, ap, arith}
 use Rattle.std.specs.Prelude.{IfSome, OnOk}
 use Rattle.std.proofs.lemmas.List.Elements.{All-nil, All-cons}
 use Rattle.script_text.specs.declared.item.Item.{Item}
 use Rattle.script_text.specs.Asked.{asked}
 use Rattle.script_text.specs.ScriptParts.{ScriptParts}
 use Rattle.plain_node.specs.Lined.{IsRight}
-use Rattle.plain_node.specs.Lost.{IsGoodSoFar}
+use Rattle.plain_node.specs.Good.{GoodRun}
 use Rattle.plain_node.specs.Sound.{parts_of}
 use Rattle.plain_node.proofs.ProperLemmas.{good-journal}
 use Rattle.base_types.specs.declared.names.Scn.{Scn}
@@ -69,7 +69,7 @@ right-new parts node journal sound proper = record {
 }
 
 -- The journal of a node that is right is good.
-pub right-good : (parts : ScriptParts) (done : List (ℕ × Item)) (node : Node) → IsRight parts done node → IsGoodSoFar parts node.journal
+pub right-good : (parts : ScriptParts) (done : List (ℕ × Item)) (node : Node) → IsRight parts done node → GoodRun parts node.journal
 right-good parts done node right = record {
   named = right.named;
   lines = right.lined.lines;

