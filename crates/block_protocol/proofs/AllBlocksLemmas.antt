@@ -7,13 +7,13 @@ use Rattle.block_protocol.specs.Steps.{Step, changes, writes, forces, uses, uses
 use Rattle.block_protocol.specs.Crash.{left_over}
 use Rattle.block_protocol.specs.Members.{Phase, Frozen, Thawed, Running, Members, Cluster, ComesToDisk, IsStill, IsBound, actual_after, after_loss}
 use Rattle.block_protocol.specs.Turns.{IsEra, Turn, acts, hears, stirs, loses, joins, reports, rebuilds, closes, thaws, checks, reopens, resumes}
-use Rattle.block_protocol.specs.Reign.{Turns, ends_here, goes_on}
+use Rattle.block_protocol.specs.ClusterRuns.{Turns, ends_here, goes_on}
 use Rattle.block_protocol.specs.Invariant.{Holds, Invariant}
 use Rattle.block_protocol.specs.AllBlocks.{AllBlocks, seen, view, after_step, all_forced, TurnOfAll, one_acts, one_stirs, one_rebuilds, all_force, all_lose, all_join, all_report, all_close, all_thaw, all_check, all_reopen, all_resume}
 use Rattle.block_protocol.proofs.Basics.{put-elim}
 use Rattle.block_protocol.proofs.Waits.{loses-above}
-use Rattle.block_protocol.proofs.Reign.{core-in}
-use Rattle.block_protocol.proofs.Reigns.{Holds-turns, Located-turns}
+use Rattle.block_protocol.proofs.Phases.{core-in}
+use Rattle.block_protocol.proofs.ClusterClaims.{Holds-turns, Located-turns}
 
 stays-frozen : (w : Cluster) (m : Members) (later clock : ℕ → ℕ) → m.phase ≡ Frozen → ComesToDisk m.live m.unclosed m.actual m.found later → Turns (seen m clock w) (seen (record m { phase = Frozen; found = later }) clock w)
 stays-frozen w m later clock e rises = subst (λ p. Turns (seen m clock w) (seen (record m { phase = p; found = later }) clock w)) e (goes_on (hears (seen m clock w) later rises) (ends_here _))

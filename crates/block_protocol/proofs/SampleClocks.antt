@@ -1,24 +1,24 @@
 -- A run in which a loss takes back the clocks that a Thaw raised: instance 0 has drawn ten SCNs that are nowhere on disk.
 -- Instance 2 is lost, and the Thaw raises the clocks to 10; but before instance 1 has taken a packet, instance 0 is lost
 -- too. The next Thaw raises them to 0, and the first change of instance 1 bears the SCN 1.
-use Rattle.std.proofs.Common.{◌≡◌, ◌≢◌, ℕ, ◌+◌, ◌≤◌, Bool, true, false, [], ◌∷◌, refl, sym, subst, arith, inl, inr}
-use Rattle.std.specs.Prelude.{Option, Some, None, nat_lt, max}
+use Rattle.std.proofs.Common.{◌≡◌, ◌≢◌, ℕ, ◌+◌, ◌≤◌, Bool, true, false, [], ◌∷◌, refl, subst, arith, inl, inr}
+use Rattle.std.specs.Prelude.{Option, None, nat_lt, max}
 use Rattle.std.proofs.lemmas.Bool.{ltb-true}
-use Rattle.block_protocol.specs.Block.{Exclusive, Hold, Write, Moves, Quiet, Idle, Block, put}
+use Rattle.block_protocol.specs.Block.{Hold, Write, Moves, Quiet, Idle, put}
 use Rattle.block_protocol.specs.Steps.{asks, arrives, begins_to_clear, gives, installs_from_disk, ends, changes, raises, takes_entry}
 use Rattle.block_protocol.specs.Members.{Thawed, Running, Cluster}
 use Rattle.block_protocol.specs.Turns.{numbered, loses, reports, closes, thaws, reopens, resumes}
-use Rattle.block_protocol.specs.Reign.{first, Turns, ends_here, goes_on}
+use Rattle.block_protocol.specs.ClusterRuns.{first, Turns, ends_here, goes_on}
 use Rattle.block_protocol.proofs.Basics.{none-some, put-elim}
-use Rattle.block_protocol.proofs.Reign.{nothing-comes}
+use Rattle.block_protocol.proofs.Phases.{nothing-comes}
 use Rattle.block_protocol.proofs.SampleDark.{nothing}
-use Rattle.block_protocol.proofs.SampleReign.{grant1, no-version, plain, same, nobody}
+use Rattle.block_protocol.proofs.SampleRebuilt.{grant1, no-version, plain, same, nobody}
 
 -- who is live after instance 2 is lost, and after instance 0 is lost too
-abbrev two : ℕ → Bool
+abbrev pub two : ℕ → Bool
 two = put (λ i. nat_lt i 3) 2 false
 
-abbrev one : ℕ → Bool
+abbrev pub one : ℕ → Bool
 one = put two 0 false
 
 two-are : (i : ℕ) → two i ≡ true → (0 ≢ i → 1 ≡ i)
@@ -38,10 +38,10 @@ fell : (j : ℕ) → one j ≡ true → put (put (put (put (λ i. 0) 0 10) 2 0) 
 fell j up = subst (λ n. put (put (put (put (λ i. 0) 0 10) 2 0) 0 10) 0 0 n ≤ 0) (one-is j up) (omega arith)
 
 -- the images, after each loss
-abbrev first-images : ℕ → Option Hold
+abbrev pub first-images : ℕ → Option Hold
 first-images = put (λ i. None) 2 None
 
-abbrev then-images : ℕ → Option Hold
+abbrev pub then-images : ℕ → Option Hold
 then-images = put (numbered (λ i. i + 1) first-images) 0 None
 
 first-none : (i : ℕ) → first-images i ≡ None
@@ -79,7 +79,7 @@ first-running i up = up
 then-running : (i : ℕ) → one i ≡ true → put (put (λ t. nat_lt t 3) 2 false) 0 false i ≡ true
 then-running i up = up
 
-abbrev again : Cluster
+abbrev pub again : Cluster
 again = record {
   members = record {
     phase = Thawed;
@@ -120,7 +120,7 @@ again = record {
 }
 
 -- two losses, and a Thaw after each
-twice : Turns (first 3 0) again
+pub twice : Turns (first 3 0) again
 twice =
     goes_on (plain _ _ (raises _ 0 10 (omega arith)) tt tt tt)
     (goes_on (loses _ 2 0 10 [] [] (λ t. 0) refl (record { parts = refl; waited = tt }) (nothing-comes _ _ _ _) tt (record { above = record { clocks = λ j up. drawn j; threads = λ t. omega arith }; reached = inl (0, refl, omega arith) }))

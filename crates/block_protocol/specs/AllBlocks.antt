@@ -1,5 +1,5 @@
 -- All data blocks together: they share the membership and the clocks. A turn of the whole is one at each block.
-use Rattle.std.specs.Prelude.{ℕ, ◌+◌, ◌≡◌, ◌≤◌, max, Bool, true, false, [], Some, None}
+use Rattle.std.specs.Prelude.{ℕ, ◌+◌, ◌≡◌, ◌≤◌, max, true, false, [], Some, None}
 use Rattle.std.specs.List.{AllByRecursion}
 use Rattle.block_protocol.specs.Block.{Hold, Block, put}
 use Rattle.block_protocol.specs.Steps.{Step, forced}
