@@ -16,81 +16,81 @@ pub record AllBlocks : Type 0 where
 
 -- one block as it is seen with what is shared
 abbrev pub seen : Members → (ℕ → ℕ) → Cluster → Cluster
-seen members clock w = record w { members = members; block = record w.block { clock = clock } }
+seen members clock cluster = record cluster { members = members; block = record cluster.block { clock = clock } }
 
 abbrev pub view : AllBlocks → ℕ → Cluster
-view m b = seen m.members m.clock (m.blocks b)
+view whole b = seen whole.members whole.clock (whole.blocks b)
 
 -- a block after a step of its own
-abbrev pub after_step : (m : AllBlocks) (b : ℕ) {t : Block} → Step (view m b).block t → Cluster
-after_step m b {t} step = record (view m b) { block = t; global = role_after step (m.blocks b).global; mine = firsts_after step (m.blocks b).mine }
+abbrev pub after_step : (whole : AllBlocks) (b : ℕ) {after : Block} → Step (view whole b).block after → Cluster
+after_step whole b {after} step = record (view whole b) { block = after; global = role_after step (whole.blocks b).global; mine = firsts_after step (whole.blocks b).mine }
 
 -- all redo of i on each block comes to disk
 abbrev pub all_forced : AllBlocks → ℕ → ℕ → Cluster
-all_forced m i b = record (view m b) { block = record (view m b).block { records = forced i (m.blocks b).block.records } }
+all_forced whole inst b = record (view whole b) { block = record (view whole b).block { records = forced inst (whole.blocks b).block.records } }
 
 abbrev pub OnDiskLater : AllBlocks → (ℕ → ℕ) → Type 0
-OnDiskLater m later = ComesToDisk m.members.live m.members.unclosed m.members.actual m.members.found later
+OnDiskLater whole later = ComesToDisk whole.members.live whole.members.unclosed whole.members.actual whole.members.found later
 
 pub data TurnOfAll : AllBlocks → AllBlocks → Type 0 where
   -- a step at one block
-  one_acts : (m : AllBlocks) (b : ℕ) (t : Block) (later : ℕ → ℕ) (step : Step (view m b).block t) → IsEra m.members.phase → OnDiskLater m later
-      → Permits m.members.live later step → IsAwake m.members.actual step
-      → TurnOfAll m (record { members = record m.members { found = later; actual = actual_after step m.members.actual }; clock = t.clock; blocks = put m.blocks b (after_step m b step) })
-  one_stirs : (m : AllBlocks) (b : ℕ) (t : Block) (later : ℕ → ℕ) (step : Step (view m b).block t) → m.members.phase ≡ Frozen → OnDiskLater m later
-      → Permits m.members.live later step → IsStill m.members.live m.members.reported step
-      → TurnOfAll m (record { members = record m.members { phase = Frozen; found = later; actual = actual_after step m.members.actual }; clock = t.clock; blocks = put m.blocks b (after_step m b step) })
-  one_rebuilds : (m : AllBlocks) (b base v : ℕ) → m.members.phase ≡ Frozen → IsLed m.members → AllReported m.members → NoImages (view m b).block
-      → IsBaseOf (view m b).block base → rolled_from m.members base (m.blocks b).block.records ≡ Some v
-      → TurnOfAll m (record { members = record m.members { phase = Frozen }; clock = m.clock; blocks = put m.blocks b (record (view m b) { block = record (view m b).block { disk = v }; rebuilt = true }) })
+  one_acts : (whole : AllBlocks) (b : ℕ) (after : Block) (later : ℕ → ℕ) (step : Step (view whole b).block after) → IsEra whole.members.phase → OnDiskLater whole later
+      → Permits whole.members.live later step → IsAwake whole.members.actual step
+      → TurnOfAll whole (record { members = record whole.members { found = later; actual = actual_after step whole.members.actual }; clock = after.clock; blocks = put whole.blocks b (after_step whole b step) })
+  one_stirs : (whole : AllBlocks) (b : ℕ) (after : Block) (later : ℕ → ℕ) (step : Step (view whole b).block after) → whole.members.phase ≡ Frozen → OnDiskLater whole later
+      → Permits whole.members.live later step → IsStill whole.members.live whole.members.reported step
+      → TurnOfAll whole (record { members = record whole.members { phase = Frozen; found = later; actual = actual_after step whole.members.actual }; clock = after.clock; blocks = put whole.blocks b (after_step whole b step) })
+  one_rebuilds : (whole : AllBlocks) (b base version : ℕ) → whole.members.phase ≡ Frozen → IsLed whole.members → AllReported whole.members → NoImages (view whole b).block
+      → IsBaseOf (view whole b).block base → rolled_from whole.members base (whole.blocks b).block.records ≡ Some version
+      → TurnOfAll whole (record { members = record whole.members { phase = Frozen }; clock = whole.clock; blocks = put whole.blocks b (record (view whole b) { block = record (view whole b).block { disk = version }; rebuilt = true }) })
   -- an instance forces its redo, of all blocks at once
-  all_force : (m : AllBlocks) (i : ℕ) (later : ℕ → ℕ) → OnDiskLater m later → ((b : ℕ) → AllByRecursion (λ r. r.maker ≡ i → r.scn ≤ later i) (m.blocks b).block.records)
-      → TurnOfAll m (record { members = record m.members { found = later }; clock = m.clock; blocks = all_forced m i })
+  all_force : (whole : AllBlocks) (inst : ℕ) (later : ℕ → ℕ) → OnDiskLater whole later → ((b : ℕ) → AllByRecursion (λ redo. redo.maker ≡ inst → redo.scn ≤ later inst) (whole.blocks b).block.records)
+      → TurnOfAll whole (record { members = record whole.members { found = later }; clock = whole.clock; blocks = all_forced whole inst })
   -- an instance is lost: one SCN, that of its last record which came to disk, tells what each block loses
-  all_lose : (m : AllBlocks) (i z scn bound : ℕ) (later : ℕ → ℕ) → m.members.live i ≡ true
-      → ComesToDisk (put m.members.live i false) m.members.unclosed m.members.actual m.members.found later
-      → ((b : ℕ) → AllByRecursion (λ r. r.maker ≡ i → r.scn ≤ later i) (left_over i z (m.blocks b).block.records))
-      → IsBound (put m.members.live i false) (put m.members.actual i scn) later bound
-      → TurnOfAll m (record {
-        members = record m.members { phase = Frozen; live = put m.members.live i false; reported = λ j. false; unclosed = put m.members.unclosed i true; found = later; actual = put m.members.actual i scn };
-        clock = put m.members.actual i scn;
-        blocks = λ b. record (view m b) { block = after_loss (view m b).block m.members.actual i (left_over i z (m.blocks b).block.records) bound scn; mine = put (m.blocks b).mine i None; rebuilt = false };
+  all_lose : (whole : AllBlocks) (inst last scn bound : ℕ) (later : ℕ → ℕ) → whole.members.live inst ≡ true
+      → ComesToDisk (put whole.members.live inst false) whole.members.unclosed whole.members.actual whole.members.found later
+      → ((b : ℕ) → AllByRecursion (λ redo. redo.maker ≡ inst → redo.scn ≤ later inst) (left_over inst last (whole.blocks b).block.records))
+      → IsBound (put whole.members.live inst false) (put whole.members.actual inst scn) later bound
+      → TurnOfAll whole (record {
+        members = record whole.members { phase = Frozen; live = put whole.members.live inst false; reported = λ other. false; unclosed = put whole.members.unclosed inst true; found = later; actual = put whole.members.actual inst scn };
+        clock = put whole.members.actual inst scn;
+        blocks = λ b. record (view whole b) { block = after_loss (view whole b).block whole.members.actual inst (left_over inst last (whole.blocks b).block.records) bound scn; mine = put (whole.blocks b).mine inst None; rebuilt = false };
       })
-  all_join : (m : AllBlocks) (i scn bound : ℕ) → m.members.live i ≡ false → (m.members.unclosed i ≡ false → m.members.found i ≤ scn)
-      → IsBound (put m.members.live i true) (put m.members.actual i scn) m.members.found bound
-      → TurnOfAll m (record {
-        members = record m.members { phase = Frozen; live = put m.members.live i true; reported = λ j. false; actual = put m.members.actual i scn };
-        clock = put m.members.actual i scn;
-        blocks = λ b. record (view m b) { block = after_loss (view m b).block m.members.actual i (view m b).block.records bound scn; mine = put (m.blocks b).mine i None; rebuilt = false };
+  all_join : (whole : AllBlocks) (inst scn bound : ℕ) → whole.members.live inst ≡ false → (whole.members.unclosed inst ≡ false → whole.members.found inst ≤ scn)
+      → IsBound (put whole.members.live inst true) (put whole.members.actual inst scn) whole.members.found bound
+      → TurnOfAll whole (record {
+        members = record whole.members { phase = Frozen; live = put whole.members.live inst true; reported = λ other. false; actual = put whole.members.actual inst scn };
+        clock = put whole.members.actual inst scn;
+        blocks = λ b. record (view whole b) { block = after_loss (view whole b).block whole.members.actual inst (view whole b).block.records bound scn; mine = put (whole.blocks b).mine inst None; rebuilt = false };
       })
   -- an instance reports where none of its images of any block is dirty and global
-  all_report : (m : AllBlocks) (i : ℕ) → m.members.phase ≡ Frozen → m.members.live i ≡ true
-      → ((b : ℕ) (f : Hold) → (m.blocks b).block.frame i ≡ Some f → (m.blocks b).block.dirty i ≡ true → (m.blocks b).global i ≡ false)
-      → TurnOfAll m (record {
-        members = record m.members { phase = Frozen; reported = put m.members.reported i true };
-        clock = m.clock;
-        blocks = λ b. record (view m b) { block = record (view m b).block { copies = put (m.blocks b).block.copies i [] } };
+  all_report : (whole : AllBlocks) (inst : ℕ) → whole.members.phase ≡ Frozen → whole.members.live inst ≡ true
+      → ((b : ℕ) (hold : Hold) → (whole.blocks b).block.frame inst ≡ Some hold → (whole.blocks b).block.dirty inst ≡ true → (whole.blocks b).global inst ≡ false)
+      → TurnOfAll whole (record {
+        members = record whole.members { phase = Frozen; reported = put whole.members.reported inst true };
+        clock = whole.clock;
+        blocks = λ b. record (view whole b) { block = record (view whole b).block { copies = put (whole.blocks b).block.copies inst [] } };
       })
   -- a thread is closed where every block is ready
-  all_close : (m : AllBlocks) (t : ℕ) → m.members.phase ≡ Frozen → IsLed m.members → AllReported m.members → ((b : ℕ) → IsReady (view m b))
-      → m.members.unclosed t ≡ true → (m.members.live t ≡ true → m.members.found t ≤ m.members.actual t)
-      → TurnOfAll m (record {
-        members = record m.members { phase = Frozen; unclosed = put m.members.unclosed t false; running = put m.members.running t false; position = put m.members.position t 0 };
-        clock = m.clock;
-        blocks = m.blocks;
+  all_close : (whole : AllBlocks) (thread : ℕ) → whole.members.phase ≡ Frozen → IsLed whole.members → AllReported whole.members → ((b : ℕ) → IsReady (view whole b))
+      → whole.members.unclosed thread ≡ true → (whole.members.live thread ≡ true → whole.members.found thread ≤ whole.members.actual thread)
+      → TurnOfAll whole (record {
+        members = record whole.members { phase = Frozen; unclosed = put whole.members.unclosed thread false; running = put whole.members.running thread false; position = put whole.members.position thread 0 };
+        clock = whole.clock;
+        blocks = whole.blocks;
       })
   -- every entry is made anew, each with grants of its own
-  all_thaw : (m : AllBlocks) (number : ℕ → ℕ → ℕ) (next : ℕ → ℕ) (bound : ℕ) → m.members.phase ≡ Frozen → IsLed m.members → AllReported m.members → ((b : ℕ) → IsReady (view m b))
-      → ((t : ℕ) → m.members.unclosed t ≡ false) → ((i : ℕ) → m.members.live i ≡ true → m.members.running i ≡ true)
-      → ((b : ℕ) → AreGrants (number b) (next b) (m.blocks b).block.frame) → IsAbove m.members.live m.members.actual m.members.found bound
-      → TurnOfAll m (record {
-        members = record m.members { phase = Thawed; paused = m.members.live; bound = bound };
-        clock = λ i. max (m.clock i) bound;
-        blocks = λ b. record (view m b) { block = thawed (view m b).block (number b) (next b) bound; global = λ i. false };
+  all_thaw : (whole : AllBlocks) (number : ℕ → ℕ → ℕ) (next : ℕ → ℕ) (bound : ℕ) → whole.members.phase ≡ Frozen → IsLed whole.members → AllReported whole.members → ((b : ℕ) → IsReady (view whole b))
+      → ((thread : ℕ) → whole.members.unclosed thread ≡ false) → ((inst : ℕ) → whole.members.live inst ≡ true → whole.members.running inst ≡ true)
+      → ((b : ℕ) → AreGrants (number b) (next b) (whole.blocks b).block.frame) → IsAbove whole.members.live whole.members.actual whole.members.found bound
+      → TurnOfAll whole (record {
+        members = record whole.members { phase = Thawed; paused = whole.members.live; bound = bound };
+        clock = λ inst. max (whole.clock inst) bound;
+        blocks = λ b. record (view whole b) { block = thawed (view whole b).block (number b) (next b) bound; global = λ inst. false };
       })
   -- a checkpoint passes no first record of any block
-  all_check : (m : AllBlocks) (i p : ℕ) → m.members.live i ≡ true → m.members.unclosed i ≡ false → ((b z : ℕ) → (m.blocks b).mine i ≡ Some z → p ≤ z) → p ≤ m.members.actual i + 1
-      → TurnOfAll m (record { members = record m.members { position = put m.members.position i p; running = put m.members.running i true }; clock = m.clock; blocks = m.blocks })
-  all_reopen : (m : AllBlocks) → m.members.phase ≡ Thawed → TurnOfAll m (record { members = record m.members { phase = Running }; clock = m.clock; blocks = m.blocks })
-  all_resume : (m : AllBlocks) (i : ℕ) → m.members.phase ≡ Running → m.members.bound ≤ m.members.actual i
-      → TurnOfAll m (record { members = record m.members { phase = Running; paused = put m.members.paused i false }; clock = m.clock; blocks = m.blocks })
+  all_check : (whole : AllBlocks) (inst start : ℕ) → whole.members.live inst ≡ true → whole.members.unclosed inst ≡ false → ((b scn : ℕ) → (whole.blocks b).mine inst ≡ Some scn → start ≤ scn) → start ≤ whole.members.actual inst + 1
+      → TurnOfAll whole (record { members = record whole.members { position = put whole.members.position inst start; running = put whole.members.running inst true }; clock = whole.clock; blocks = whole.blocks })
+  all_reopen : (whole : AllBlocks) → whole.members.phase ≡ Thawed → TurnOfAll whole (record { members = record whole.members { phase = Running }; clock = whole.clock; blocks = whole.blocks })
+  all_resume : (whole : AllBlocks) (inst : ℕ) → whole.members.phase ≡ Running → whole.members.bound ≤ whole.members.actual inst
+      → TurnOfAll whole (record { members = record whole.members { phase = Running; paused = put whole.members.paused inst false }; clock = whole.clock; blocks = whole.blocks })

@@ -10,45 +10,45 @@ use Rattle.block_protocol.specs.Turns.{IsEra}
 
 -- what was reported has its own records alone above the disk's version
 abbrev pub AreOwn : Members → (ℕ → Bool) → Block → Type 0
-AreOwn m global s = (i : ℕ) (f : Hold) → m.reported i ≡ true → s.frame i ≡ Some f → s.dirty i ≡ true → global i ≡ false
+AreOwn members global block = (inst : ℕ) (hold : Hold) → members.reported inst ≡ true → block.frame inst ≡ Some hold → block.dirty inst ≡ true → global inst ≡ false
 
 abbrev pub CoreOf : Cluster → Type 0
-CoreOf w = Core w.members.live w.members.unclosed w.members.actual w.members.found w.global w.block
+CoreOf cluster = Core cluster.members.live cluster.members.unclosed cluster.members.actual cluster.members.found cluster.global cluster.block
 
 -- where recovery would read each thread from, and that its control entry says that it runs
-pub record Located (w : Cluster) : Type 0 where
-  pub placed : Placed w.members.live w.members.unclosed w.mine w.members.position w.members.actual w.block.disk w.block.records
-  pub entries : Entries w.members.running w.block.frame w.block.disk w.block.records
-  pub up : IsEra w.members.phase → (i : ℕ) → w.members.live i ≡ true → w.members.running i ≡ true
+pub record Located (cluster : Cluster) : Type 0 where
+  pub placed : Placed cluster.members.live cluster.members.unclosed cluster.mine cluster.members.position cluster.members.actual cluster.block.disk cluster.block.records
+  pub entries : Entries cluster.members.running cluster.block.frame cluster.block.disk cluster.block.records
+  pub up : IsEra cluster.members.phase → (inst : ℕ) → cluster.members.live inst ≡ true → cluster.members.running inst ≡ true
 
 -- in the phase Frozen
-pub record Still (w : Cluster) : Type 0 where
-  pub core : CoreOf w
+pub record Still (cluster : Cluster) : Type 0 where
+  pub core : CoreOf cluster
   -- the clocks that count are as they are
-  pub awake : (i : ℕ) → w.members.actual i ≡ w.block.clock i
-  pub own : AreOwn w.members w.global w.block
-  pub rebuilt : w.rebuilt ≡ true → (AllReported w.members) × (w.block.disk ≡ length w.block.records)
+  pub awake : (inst : ℕ) → cluster.members.actual inst ≡ cluster.block.clock inst
+  pub own : AreOwn cluster.members cluster.global cluster.block
+  pub rebuilt : cluster.rebuilt ≡ true → (AllReported cluster.members) × (cluster.block.disk ≡ length cluster.block.records)
 
 -- in the phases Thawed and Running
-pub record Era (w : Cluster) : Type 0 where
-  pub whole : Whole w.block
-  pub settled : Settled w.members.live w.members.actual w.members.found w.block.frame w.block.clock w.block.records w.block.floor
-  pub lasting : Lasting w.members.live w.members.actual w.members.found w.global w.block
-  pub closed : (t : ℕ) → w.members.unclosed t ≡ false
-  pub paced : ArePaced w.members.live w.members.unclosed w.members.actual w.members.found
+pub record Era (cluster : Cluster) : Type 0 where
+  pub whole : Whole cluster.block
+  pub settled : Settled cluster.members.live cluster.members.actual cluster.members.found cluster.block.frame cluster.block.clock cluster.block.records cluster.block.floor
+  pub lasting : Lasting cluster.members.live cluster.members.actual cluster.members.found cluster.global cluster.block
+  pub closed : (thread : ℕ) → cluster.members.unclosed thread ≡ false
+  pub paced : ArePaced cluster.members.live cluster.members.unclosed cluster.members.actual cluster.members.found
   -- who has resumed has a clock above all that was used before
-  pub resumed : (i : ℕ) → w.members.live i ≡ true → w.members.paused i ≡ false → w.members.bound ≤ w.members.actual i
+  pub resumed : (inst : ℕ) → cluster.members.live inst ≡ true → cluster.members.paused inst ≡ false → cluster.members.bound ≤ cluster.members.actual inst
   -- a clock counts as risen to the bound and no further
-  pub ahead : (i : ℕ) → w.block.clock i ≤ max (w.members.actual i) w.members.bound
+  pub ahead : (inst : ℕ) → cluster.block.clock inst ≤ max (cluster.members.actual inst) cluster.members.bound
 
 abbrev pub HoldsIn : Phase → Cluster → Type 0
-HoldsIn Frozen w = Still w
-HoldsIn Thawed w = Era w
-HoldsIn Running w = Era w
+HoldsIn Frozen cluster = Still cluster
+HoldsIn Thawed cluster = Era cluster
+HoldsIn Running cluster = Era cluster
 
 abbrev pub Holds : Cluster → Type 0
-Holds w = HoldsIn w.members.phase w
+Holds cluster = HoldsIn cluster.members.phase cluster
 
-pub record Invariant (w : Cluster) : Type 0 where
-  pub holds : Holds w
-  pub located : Located w
+pub record Invariant (cluster : Cluster) : Type 0 where
+  pub holds : Holds cluster
+  pub located : Located cluster
