@@ -7,7 +7,7 @@ use Rattle.block_protocol.specs.Guard.{GoodClocks, IsGuarded}
 use Rattle.block_protocol.specs.Board.{GoodBoard}
 use Rattle.block_protocol.specs.Pasts.{GoodPasts}
 use Rattle.block_protocol.specs.Uses.{GoodUses}
-use Rattle.block_protocol.specs.Floors.{GoodFloors, Drawn}
+use Rattle.block_protocol.specs.Floors.{GoodFloors, AreDrawn}
 
 pub record Whole (s : Block) : Type 0 where
   pub directory : Sound s
@@ -19,4 +19,4 @@ pub record Whole (s : Block) : Type 0 where
   pub pasts : GoodPasts s
   pub uses : GoodUses s
   pub floors : GoodFloors s
-  pub drawn : Drawn s
+  pub drawn : AreDrawn s
