@@ -49,7 +49,7 @@ Settled-fewer s live actual found less shrinks m = record {
   images = record {
     newest = m.images.newest;
     image = λ j f e. m.images.image j f (shrinks j f e);
-    seat = λ j f e x. m.images.seat j f (shrinks j f e) x;
+    holder = λ j f e x. m.images.holder j f (shrinks j f e) x;
     way = tt;
   };
   bounded = m.bounded;
@@ -66,9 +66,9 @@ Settled-comes s live actual found a k op awake g m = record {
       | inl p ↦ (let le = g.image j f e in let same : j ≡ a = p.0 in let here : actual j ≡ s.clock j = rw same awake in omega (arith, le, here))
       | inr p ↦ m.images.image j f p.1
     ];
-    seat = λ j f e x. elim (put-some s.frame a k j f e) [
-      | inl p ↦ (let le = g.seat j f e x in let same : j ≡ a = p.0 in let here : actual j ≡ s.clock j = rw same awake in omega (arith, le, here))
-      | inr p ↦ m.images.seat j f p.1 x
+    holder = λ j f e x. elim (put-some s.frame a k j f e) [
+      | inl p ↦ (let le = g.holder j f e x in let same : j ≡ a = p.0 in let here : actual j ≡ s.clock j = rw same awake in omega (arith, le, here))
+      | inr p ↦ m.images.holder j f p.1 x
     ];
     way = tt;
   };
@@ -83,7 +83,7 @@ Settled-uses s live actual found h f scn image le reached t m = record {
   images = record {
     newest = let low = m.images.newest in omega (arith, low);
     image = m.images.image;
-    seat = λ j x e mode. let same : h ≡ j = (one-seat s t).held j h x f e mode image in let near : scn ≤ actual j = rw same at le in let low = m.images.seat j x e mode in omega (arith, near, low);
+    holder = λ j x e mode. let same : h ≡ j = (one-seat s t).held j h x f e mode image in let near : scn ≤ actual j = rw same at le in let low = m.images.holder j x e mode in omega (arith, near, low);
     way = tt;
   };
   bounded = reaches-max live actual found s.floor scn m.bounded reached;
@@ -100,7 +100,7 @@ Settled-changes s live actual found i f image mode awake up t m =
       images = record {
         newest = omega arith;
         image = λ j x e. let same : j ≡ i = (one-seat s t).held i j f x image mode e in rw (same, put-same actual i (s.clock i + 1)) (omega arith);
-        seat = λ j x e z. let same : j ≡ i = (one-seat s t).held i j f x image mode e in let low = m.images.seat i f image mode in rw (same, put-same actual i (s.clock i + 1)) (omega (arith, low, awake));
+        holder = λ j x e z. let same : j ≡ i = (one-seat s t).held i j f x image mode e in let low = m.images.holder i f image mode in rw (same, put-same actual i (s.clock i + 1)) (omega (arith, low, awake));
         way = tt;
       };
       bounded = reaches-max live (put actual i (s.clock i + 1)) found s.floor (s.clock i + 1) (reaches-rises live actual (put actual i (s.clock i + 1)) found found s.floor rises (λ j. omega arith) m.bounded)
@@ -118,7 +118,7 @@ Settled-raises s live actual found i scn le m =
       images = record {
         newest = m.images.newest;
         image = λ j f e. let low = m.images.image j f e in let up = rises j in omega (arith, low, up);
-        seat = λ j f e x. let low = m.images.seat j f e x in let up = rises j in omega (arith, low, up);
+        holder = λ j f e x. let low = m.images.holder j f e x in let up = rises j in omega (arith, low, up);
         way = tt;
       };
       bounded = reaches-rises live actual (put actual i scn) found found s.floor rises (λ j. omega arith) m.bounded;
@@ -130,7 +130,7 @@ Settled-forces s live actual found i m = record {
   images = record {
     newest = rw (top-forced i s.records) m.images.newest;
     image = λ j f e. rw (top-forced i s.records) (m.images.image j f e);
-    seat = m.images.seat;
+    holder = m.images.holder;
     way = tt;
   };
   bounded = m.bounded;

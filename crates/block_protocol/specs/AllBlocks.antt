@@ -4,11 +4,12 @@ use Rattle.std.specs.List.{AllByRecursion}
 use Rattle.block_protocol.specs.Block.{Hold, Block, put}
 use Rattle.block_protocol.specs.Steps.{Step, forced}
 use Rattle.block_protocol.specs.Crash.{left_over}
-use Rattle.block_protocol.specs.Members.{Frozen, Thawed, Running, Members, Cluster, ComesToDisk, IsAbove, IsBound, Permits, IsAwake, IsStill, actual_after, role_after, after_loss}
+use Rattle.block_protocol.specs.Members.{Frozen, Thawed, Running, Members, Cluster, RedoComes, IsAbove, IsBound, Permits, IsAwake, IsStill, actual_after, role_after, after_loss}
 use Rattle.block_protocol.specs.Positions.{firsts_after}
 use Rattle.block_protocol.specs.Recovery.{AllReported, IsLed, NoImages, IsBaseOf, rolled_from, IsReady}
 use Rattle.block_protocol.specs.Turns.{IsEra, AreGrants, thawed}
 
+-- all blocks with what they share
 pub record AllBlocks : Type 0 where
   pub members : Members
   pub clock : ℕ → ℕ
@@ -18,6 +19,7 @@ pub record AllBlocks : Type 0 where
 abbrev pub seen : Members → (ℕ → ℕ) → Cluster → Cluster
 seen members clock cluster = record cluster { members = members; block = record cluster.block { clock = clock } }
 
+-- the same, by the block's number
 abbrev pub view : AllBlocks → ℕ → Cluster
 view whole b = seen whole.members whole.clock (whole.blocks b)
 
@@ -25,30 +27,30 @@ view whole b = seen whole.members whole.clock (whole.blocks b)
 abbrev pub after_step : (whole : AllBlocks) (b : ℕ) {after : Block} → Step (view whole b).block after → Cluster
 after_step whole b {after} step = record (view whole b) { block = after; global = role_after step (whole.blocks b).global; mine = firsts_after step (whole.blocks b).mine }
 
--- all redo of i on each block comes to disk
+-- a block after all redo of an instance came to disk
 abbrev pub all_forced : AllBlocks → ℕ → ℕ → Cluster
 all_forced whole inst b = record (view whole b) { block = record (view whole b).block { records = forced inst (whole.blocks b).block.records } }
 
-abbrev pub OnDiskLater : AllBlocks → (ℕ → ℕ) → Type 0
-OnDiskLater whole later = ComesToDisk whole.members.live whole.members.unclosed whole.members.actual whole.members.found later
-
+-- what may happen to all blocks at once
 pub data TurnOfAll : AllBlocks → AllBlocks → Type 0 where
   -- a step at one block
-  one_acts : (whole : AllBlocks) (b : ℕ) (after : Block) (later : ℕ → ℕ) (step : Step (view whole b).block after) → IsEra whole.members.phase → OnDiskLater whole later
+  one_acts : (whole : AllBlocks) (b : ℕ) (after : Block) (later : ℕ → ℕ) (step : Step (view whole b).block after) → IsEra whole.members.phase → RedoComes whole.members later
       → Permits whole.members.live later step → IsAwake whole.members.actual step
       → TurnOfAll whole (record { members = record whole.members { found = later; actual = actual_after step whole.members.actual }; clock = after.clock; blocks = put whole.blocks b (after_step whole b step) })
-  one_stirs : (whole : AllBlocks) (b : ℕ) (after : Block) (later : ℕ → ℕ) (step : Step (view whole b).block after) → whole.members.phase ≡ Frozen → OnDiskLater whole later
+  -- the same while all is frozen
+  one_stirs : (whole : AllBlocks) (b : ℕ) (after : Block) (later : ℕ → ℕ) (step : Step (view whole b).block after) → whole.members.phase ≡ Frozen → RedoComes whole.members later
       → Permits whole.members.live later step → IsStill whole.members.live whole.members.reported step
       → TurnOfAll whole (record { members = record whole.members { phase = Frozen; found = later; actual = actual_after step whole.members.actual }; clock = after.clock; blocks = put whole.blocks b (after_step whole b step) })
+  -- one block is rebuilt
   one_rebuilds : (whole : AllBlocks) (b base version : ℕ) → whole.members.phase ≡ Frozen → IsLed whole.members → AllReported whole.members → NoImages (view whole b).block
       → IsBaseOf (view whole b).block base → rolled_from whole.members base (whole.blocks b).block.records ≡ Some version
       → TurnOfAll whole (record { members = record whole.members { phase = Frozen }; clock = whole.clock; blocks = put whole.blocks b (record (view whole b) { block = record (view whole b).block { disk = version }; rebuilt = true }) })
   -- an instance forces its redo, of all blocks at once
-  all_force : (whole : AllBlocks) (inst : ℕ) (later : ℕ → ℕ) → OnDiskLater whole later → ((b : ℕ) → AllByRecursion (λ redo. redo.maker ≡ inst → redo.scn ≤ later inst) (whole.blocks b).block.records)
+  all_force : (whole : AllBlocks) (inst : ℕ) (later : ℕ → ℕ) → RedoComes whole.members later → ((b : ℕ) → AllByRecursion (λ redo. redo.maker ≡ inst → redo.scn ≤ later inst) (whole.blocks b).block.records)
       → TurnOfAll whole (record { members = record whole.members { found = later }; clock = whole.clock; blocks = all_forced whole inst })
   -- an instance is lost: one SCN, that of its last record which came to disk, tells what each block loses
   all_lose : (whole : AllBlocks) (inst last scn bound : ℕ) (later : ℕ → ℕ) → whole.members.live inst ≡ true
-      → ComesToDisk (put whole.members.live inst false) whole.members.unclosed whole.members.actual whole.members.found later
+      → RedoComes (record whole.members { live = put whole.members.live inst false }) later
       → ((b : ℕ) → AllByRecursion (λ redo. redo.maker ≡ inst → redo.scn ≤ later inst) (left_over inst last (whole.blocks b).block.records))
       → IsBound (put whole.members.live inst false) (put whole.members.actual inst scn) later bound
       → TurnOfAll whole (record {
@@ -56,6 +58,7 @@ pub data TurnOfAll : AllBlocks → AllBlocks → Type 0 where
         clock = put whole.members.actual inst scn;
         blocks = λ b. record (view whole b) { block = after_loss (view whole b).block whole.members.actual inst (left_over inst last (whole.blocks b).block.records) bound scn; mine = put (whole.blocks b).mine inst None; rebuilt = false };
       })
+  -- an instance comes
   all_join : (whole : AllBlocks) (inst scn bound : ℕ) → whole.members.live inst ≡ false → (whole.members.unclosed inst ≡ false → whole.members.found inst ≤ scn)
       → IsBound (put whole.members.live inst true) (put whole.members.actual inst scn) whole.members.found bound
       → TurnOfAll whole (record {
@@ -91,6 +94,7 @@ pub data TurnOfAll : AllBlocks → AllBlocks → Type 0 where
   -- a checkpoint passes no first record of any block
   all_check : (whole : AllBlocks) (inst start : ℕ) → whole.members.live inst ≡ true → whole.members.unclosed inst ≡ false → ((b scn : ℕ) → (whole.blocks b).mine inst ≡ Some scn → start ≤ scn) → start ≤ whole.members.actual inst + 1
       → TurnOfAll whole (record { members = record whole.members { position = put whole.members.position inst start; running = put whole.members.running inst true }; clock = whole.clock; blocks = whole.blocks })
+  -- statements go on, and then each instance
   all_reopen : (whole : AllBlocks) → whole.members.phase ≡ Thawed → TurnOfAll whole (record { members = record whole.members { phase = Running }; clock = whole.clock; blocks = whole.blocks })
   all_resume : (whole : AllBlocks) (inst : ℕ) → whole.members.phase ≡ Running → whole.members.bound ≤ whole.members.actual inst
       → TurnOfAll whole (record { members = record whole.members { phase = Running; paused = put whole.members.paused inst false }; clock = whole.clock; blocks = whole.blocks })

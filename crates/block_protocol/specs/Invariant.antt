@@ -12,6 +12,7 @@ use Rattle.block_protocol.specs.Turns.{IsEra}
 abbrev pub AreOwn : Members → (ℕ → Bool) → Block → Type 0
 AreOwn members global block = (inst : ℕ) (hold : Hold) → members.reported inst ≡ true → block.frame inst ≡ Some hold → block.dirty inst ≡ true → global inst ≡ false
 
+-- what holds in every phase
 abbrev pub CoreOf : Cluster → Type 0
 CoreOf cluster = Core cluster.members.live cluster.members.unclosed cluster.members.actual cluster.members.found cluster.global cluster.block
 
@@ -41,14 +42,17 @@ pub record Era (cluster : Cluster) : Type 0 where
   -- a clock counts as risen to the bound and no further
   pub ahead : (inst : ℕ) → cluster.block.clock inst ≤ max (cluster.members.actual inst) cluster.members.bound
 
+-- each phase has its own part
 abbrev pub HoldsIn : Phase → Cluster → Type 0
 HoldsIn Frozen cluster = Still cluster
 HoldsIn Thawed cluster = Era cluster
 HoldsIn Running cluster = Era cluster
 
+-- the part of the phase that is
 abbrev pub Holds : Cluster → Type 0
 Holds cluster = HoldsIn cluster.members.phase cluster
 
+-- all of it
 pub record Invariant (cluster : Cluster) : Type 0 where
   pub holds : Holds cluster
   pub located : Located cluster
