@@ -9,11 +9,11 @@ use Rattle.block_protocol.specs.Members.{Phase, Frozen, Thawed, Running, Members
 use Rattle.block_protocol.specs.Turns.{IsEra, Turn, acts, hears, stirs, loses, joins, reports, rebuilds, closes, thaws, checks, reopens, resumes}
 use Rattle.block_protocol.specs.ClusterRuns.{Turns, ends_here, goes_on}
 use Rattle.block_protocol.specs.Invariant.{Holds, Invariant}
-use Rattle.block_protocol.specs.AllBlocks.{AllBlocks, seen, view, after_step, all_forced, TurnOfAll, one_acts, one_stirs, one_rebuilds, all_force, all_lose, all_join, all_report, all_close, all_thaw, all_check, all_reopen, all_resume}
+use Rattle.block_protocol.specs.AllBlocks.{AllBlocks, seen, view, after_step, all_forced, TurnOfAll, one_acts, one_stirs, one_rebuilds, all_force, all_lose, all_join, all_report, all_close, all_thaw, all_check, all_reopen, all_resume, first_of_all, RunOfAll, all_end, all_go}
 use Rattle.block_protocol.proofs.Basics.{put-elim}
 use Rattle.block_protocol.proofs.Waits.{loses-above}
 use Rattle.block_protocol.proofs.Phases.{core-in}
-use Rattle.block_protocol.proofs.ClusterClaims.{Holds-turns, Located-turns}
+use Rattle.block_protocol.proofs.ClusterClaims.{Holds-first, Located-first, Holds-turns, Located-turns}
 
 stays-frozen : (w : Cluster) (m : Members) (later clock : ℕ → ℕ) → m.phase ≡ Frozen → ComesToDisk m.live m.unclosed m.actual m.found later → Turns (seen m clock w) (seen (record m { phase = Frozen; found = later }) clock w)
 stays-frozen w m later clock e rises = subst (λ p. Turns (seen m clock w) (seen (record m { phase = p; found = later }) clock w)) e (goes_on (hears (seen m clock w) later rises) (ends_here _))
@@ -98,3 +98,10 @@ pub invariant-of-all : {m n : AllBlocks} → TurnOfAll m n → ((b : ℕ) → In
 invariant-of-all turn h b =
     let run = turns-of-all turn h b in
     record { holds = Holds-turns run (h b).holds (h b).located; located = Located-turns run (h b).holds (h b).located }
+
+pub invariant-of-run : {m n : AllBlocks} → RunOfAll m n → ((b : ℕ) → Invariant (view m b)) → (b : ℕ) → Invariant (view n b)
+invariant-of-run (all_end m) h b = h b
+invariant-of-run (all_go turn rest) h b = invariant-of-run rest (λ c. invariant-of-all turn h c) b
+
+pub invariant-first : (n : ℕ) (master : ℕ → ℕ) (b : ℕ) → Invariant (view (first_of_all n master) b)
+invariant-first n master b = record { holds = Holds-first n (master b); located = Located-first n (master b) }
