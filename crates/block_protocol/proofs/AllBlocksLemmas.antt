@@ -51,7 +51,7 @@ pub crash-at : (w : Cluster) (i z scn bound : ℕ) (later : ℕ → ℕ) → Hol
     })
 crash-at w i z scn bound later h up rises stamps b =
     let c = core-in w w.members.phase h in
-    let x = loses-above w.block i z c.directory c.board c.lasting.waits in
+    let x = loses-above w.block i z c.directory c.order.board c.lasting.waits in
     loses w i scn bound x.0 (left_over i z w.block.records) later up x.1 rises stamps b
 
 -- an update at one block

@@ -30,17 +30,19 @@ pub record Still (cluster : Cluster) : Type 0 where
   pub own : AreOwn cluster.members cluster.global cluster.block
   pub rebuilt : cluster.rebuilt ≡ true → (AllReported cluster.members) × (cluster.block.disk ≡ length cluster.block.records)
 
+-- who has resumed has a clock above all that was used before, and a clock counts as risen to the bound and no further
+pub record Resuming (cluster : Cluster) : Type 0 where
+  pub paced : ArePaced cluster.members.live cluster.members.unclosed cluster.members.actual cluster.members.found
+  pub resumed : (inst : Inst) → cluster.members.live inst ≡ true → cluster.members.paused inst ≡ false → cluster.members.bound ≤ cluster.members.actual inst
+  pub ahead : (inst : Inst) → cluster.block.clock inst ≤ max (cluster.members.actual inst) cluster.members.bound
+
 -- in the phases Thawed and Running
 pub record Era (cluster : Cluster) : Type 0 where
   pub whole : Whole cluster.block
   pub settled : Settled cluster.members.live cluster.members.actual cluster.members.found cluster.block.frame cluster.block.clock cluster.block.records cluster.block.floor
   pub lasting : Lasting cluster.members.live cluster.members.actual cluster.members.found cluster.global cluster.block
   pub closed : (thread : Inst) → cluster.members.unclosed thread ≡ false
-  pub paced : ArePaced cluster.members.live cluster.members.unclosed cluster.members.actual cluster.members.found
-  -- who has resumed has a clock above all that was used before
-  pub resumed : (inst : Inst) → cluster.members.live inst ≡ true → cluster.members.paused inst ≡ false → cluster.members.bound ≤ cluster.members.actual inst
-  -- a clock counts as risen to the bound and no further
-  pub ahead : (inst : Inst) → cluster.block.clock inst ≤ max (cluster.members.actual inst) cluster.members.bound
+  pub clocks : Resuming cluster
 
 -- each phase has its own part
 abbrev pub HoldsIn : Phase → Cluster → Type 0

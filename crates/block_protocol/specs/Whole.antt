@@ -9,14 +9,22 @@ use Rattle.block_protocol.specs.Pasts.{GoodPasts}
 use Rattle.block_protocol.specs.Uses.{GoodUses}
 use Rattle.block_protocol.specs.Floors.{GoodFloors, AreDrawn}
 
-pub record Whole (s : Block) : Type 0 where
-  pub directory : Sound s
-  pub owned : AllOwned s
-  pub images : GoodImages s
-  pub clocks : GoodClocks s
-  pub guard : IsGuarded s
-  pub board : GoodBoard s
-  pub pasts : GoodPasts s
-  pub uses : GoodUses s
-  pub floors : GoodFloors s
-  pub drawn : AreDrawn s
+-- the clocks, the records and the uses are in order
+pub record Ordered (block : Block) : Type 0 where
+  pub clocks : GoodClocks block
+  pub board : GoodBoard block
+  pub uses : GoodUses block
+
+-- whatever was used is guarded until a later change is above it
+pub record Floored (block : Block) : Type 0 where
+  pub guard : IsGuarded block
+  pub floors : GoodFloors block
+  pub drawn : AreDrawn block
+
+pub record Whole (block : Block) : Type 0 where
+  pub directory : Sound block
+  pub owned : AllOwned block
+  pub images : GoodImages block
+  pub order : Ordered block
+  pub pasts : GoodPasts block
+  pub floor : Floored block
