@@ -10,13 +10,17 @@ ghost use Rattle.block_protocol.specs.ClusterRuns.{first, Turns};
 /// Runs that show that the laws speak of something.
 ///
 /// - `shipped`: instance 1 takes the block, changes it and ships it to instance 2, which changes it too.
-/// - `rebuilt`: the same, and instance 2 is lost before a second change of it is on disk; the block is rebuilt over the past
+/// - `copied`: instance 1 changes the block, and a statement of instance 2 reads a copy of that at the SCN 1.
+/// - `upgraded`: both have shared images; once instance 2 has let its image go, instance 1 gets the exclusive one and changes it.
+/// - `rebuilt`: the run of `shipped`, and instance 2 is lost before a second change of it is on disk; the block is rebuilt over the past
 ///   image of instance 1; then the leader, instance 0, is lost too. All begins anew, and instance 1 makes version 3.
 /// - `dark`: the one instance is lost, joins while its former thread isn't closed yet, closes that and runs.
 /// - `taken_back`: instance 0 has drawn SCNs up to 10 that are nowhere on disk, and a Thaw after the loss of instance 2
 ///   raises the clocks to that; but instance 0 is lost before instance 1 has taken a packet, whose next record bears the SCN 1.
 pub fn sample_runs()
     ensures shipped { (block : Block) × Run (start 0) block × IsHolder block 2 × (block.version 2 ≡ 2) × (block.disk ≡ 0) }
+    ensures copied { (block : Block) × Run (start 0) block × (block.copies 2 ≡ (1, 1) ∷ []) × (block.used ≡ (1, 1) ∷ []) }
+    ensures upgraded { (block : Block) × Run (start 0) block × IsHolder block 1 × (block.frame 2 ≡ None) × (block.version 1 ≡ 1) }
     ensures rebuilt { (cluster : Cluster) × Turns (first 3 0) cluster × (cluster.members.phase ≡ Running) ×
         (cluster.members.live 0 ≡ false) × (cluster.members.live 2 ≡ false) × IsHolder cluster.block 1 ×
         (cluster.block.version 1 ≡ 3) × (cluster.block.disk ≡ 2) }
