@@ -1,6 +1,6 @@
 -- Two runs of readers. In the first, instance 1 changes the block and instance 2 reads a copy of it. In the second, both
 -- have shared images, and instance 1 gets the exclusive one once instance 2 has let its image go.
-use Rattle.std.proofs.Common.{◌≡◌, ◌≢◌, ℕ, ◌<◌, true, false, [], ◌∷◌, refl, sym, ap, subst, arith, inl, inr}
+use Rattle.std.proofs.Common.{◌≡◌, ◌≢◌, ℕ, ◌<◌, false, [], ◌∷◌, refl, sym, subst, arith}
 use Rattle.std.specs.Prelude.{Option, Some, None}
 use Rattle.block_protocol.specs.Block.{Shared, Exclusive, Hold, Read, Write, Upgrade, Invalidate, Block, put, without, count, here}
 use Rattle.block_protocol.specs.Sound.{clears, OnlyShared}
