@@ -1,4 +1,4 @@
--- All data blocks together: they share the membership and the clocks. A turn of the whole is one at each block.
+-- All data blocks together: they share the membership and the clocks. A turn of the whole is a run of turns at each block.
 use Rattle.std.specs.Prelude.{ℕ, ◌+◌, ◌≡◌, ◌≤◌, max, true, false, [], Some, None}
 use Rattle.std.specs.List.{AllByRecursion}
 use Rattle.block_protocol.specs.Block.{GrantNo, Inst, Scn, Version, Hold, Block, put}
