@@ -6,8 +6,8 @@ ghost use Rattle.block_image.specs.Changes.{applied, empty_block, restored, take
 
 use crate::itl::{put_slots, read_slots};
 use crate::row::{Row, put_rows, read_rows, unlock};
-use part_image::{BlockFront, BlockKind, are_zeros, put_front, put_zeros, read_front};
 use base_types::{BlockNo, InstNo, Scn, Value, Xid};
+use part_image::{BlockFront, BlockKind, are_zeros, put_front, put_zeros, read_front};
 use redo_types::{BadBlock, ItlSlot, RowChange};
 use std::marker::Model;
 

@@ -5,8 +5,8 @@ ghost use Rattle.block_image.specs.Block.{NamesSlot, row_cells};
 ghost use Rattle.block_image.specs.Changes.{let_go, unlocked};
 ghost use Rattle.block_image.specs.Parts.{AreRows, IsRowOf, rows_cells};
 
-use part_image::{are_zeros, bits_of, flag_of, put_u8, put_zeros, value_of};
 use base_types::{Value, get_u64, put_u64};
+use part_image::{are_zeros, bits_of, flag_of, put_u8, put_zeros, value_of};
 use redo_types::ItlSlot;
 
 /// A row of a data block.

@@ -9,7 +9,6 @@ use std::marker::Model;
 /// Rows with their values, in the order of the rows.
 pub type RowList = Sequence<(RowNo, Value)>;
 
-
 /// One thing that happened in a run. A statement is named by its line in the script, as `stmt`, and a
 /// control line by its line, as `line`.
 #[derive(Debug, Drop)]

@@ -11,8 +11,8 @@ use crate::error::LogError;
 use crate::line::HistoryLine;
 use crate::reading::{Logs, read_logs};
 use base_types::{InstNo, NoMemory, Sequence, Xid};
-use redo_types::{Redo, RedoKind};
 use journal::RowList;
+use redo_types::{Redo, RedoKind};
 use std::alloc::Global;
 
 fn is_commit(kind: RedoKind) -> bool

@@ -3,8 +3,8 @@ ghost use Rattle.log_history.specs.Logs.{AreLogs, IsBad, IsNext, IsRead, IsWrong
 
 use crate::error::LogError;
 use base_types::{InstNo, NoMemory, Sequence};
-use redo_types::Redo;
 use redo_record::{Front, read_front};
+use redo_types::Redo;
 use std::alloc::Global;
 
 /// What a log holds.

@@ -4,7 +4,10 @@ ghost use Rattle.redo_record.specs.Redo.{IsRedo, IsXid};
 ghost use Rattle.plain_redo.specs.Records.{change_record, commit_record, data_of, end_before, ended_slot, head_of, open_slot, undo_of};
 
 use base_types::{BlockNo, InstNo, RowNo, Scn, Value, Xid};
-use redo_types::{DataChange, HeadChange, ItlSlot, Redo, RedoKind, RowChange, TxnSlot, TxnState, UndoChange, UndoRecord};
+use redo_types::{
+    DataChange, HeadChange, ItlSlot, Redo, RedoKind, RowChange, TxnSlot, TxnState, UndoChange,
+    UndoRecord,
+};
 
 const UNUSED: ItlSlot = ItlSlot {
     xid: Xid {
@@ -145,7 +148,10 @@ fn data_of(xid: &Xid, scn: Scn, row: RowNo, new: Value) -> DataChange
             lock: 1,
             itl: 1,
             fresh: true,
-            slot: ItlSlot { xid: *xid, seq: scn.get() },
+            slot: ItlSlot {
+                xid: *xid,
+                seq: scn.get(),
+            },
             value: new,
         },
     }

@@ -4,8 +4,8 @@ ghost use Rattle.part_image.specs.Cells.{Reads, spelled};
 ghost use Rattle.redo_record.specs.Parts.{HasDataRanges};
 ghost use Rattle.redo_record.specs.Redo.{IsDataChange, cells_of, data_cells};
 
-use part_image::{bit_of, bits_of, fact_of, flag_of, put_itl, put_u8, read_itl, value_of};
 use base_types::{BlockNo, get_u16, get_u64, put_u16, put_u64};
+use part_image::{bit_of, bits_of, fact_of, flag_of, put_itl, put_u8, read_itl, value_of};
 use redo_types::{DataChange, RowChange};
 
 /// The change of a data block in the 40 bytes from a place on; `None` where they are none.

@@ -4,8 +4,8 @@ ghost use Rattle.part_image.specs.Cells.{Reads, spelled};
 ghost use Rattle.redo_record.specs.Parts.{HasHeadRanges};
 ghost use Rattle.redo_record.specs.Redo.{IsHeadChange, head_cells};
 
-use part_image::{put_txn_slot, put_u8, read_txn_slot};
 use base_types::{BlockNo, get_u16, get_u64, put_u16, put_u64};
+use part_image::{put_txn_slot, put_u8, read_txn_slot};
 use redo_types::HeadChange;
 
 /// The change of a header in the 60 bytes from a place on; `None` where they are none.

@@ -5,8 +5,8 @@ ghost use Rattle.redo_record.specs.Parts.{HasForm, HasRanges, IsStart, start_cel
 ghost use Rattle.redo_record.specs.Redo.{IsXid, NamesUndo};
 
 use crate::kind::{count_of, kind_of, length_of, number_of};
-use part_image::{are_zeros, put_u8};
 use base_types::{Scn, Xid, get_u16, get_u64, get_xid, put_u16, put_u64, put_xid};
+use part_image::{are_zeros, put_u8};
 use redo_types::{Redo, RedoKind};
 
 /// What stands before the changes of a record.

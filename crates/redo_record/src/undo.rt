@@ -4,8 +4,8 @@ ghost use Rattle.part_image.specs.Cells.{Reads, spelled};
 ghost use Rattle.redo_record.specs.Parts.{HasUndoRanges};
 ghost use Rattle.redo_record.specs.Redo.{IsUndoChange, cells_of, undo_cells};
 
-use part_image::{put_u8, put_undo_record, read_undo_record};
 use base_types::{BlockNo, get_u16, get_u64, put_u16, put_u64};
+use part_image::{put_u8, put_undo_record, read_undo_record};
 use redo_types::UndoChange;
 
 /// The change of an undo block in the 108 bytes from a place on; `None` where they are none.

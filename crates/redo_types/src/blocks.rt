@@ -1,5 +1,4 @@
-use base_types::Xid;
-use base_types::Value;
+use base_types::{Value, Xid};
 
 /// A slot of a data block's list of interested transactions (its ITL). A slot that was never used
 /// is all zero; in a used one the wrap of the transaction and the sequence number are 1 or more.

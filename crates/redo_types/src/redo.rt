@@ -1,6 +1,6 @@
 use crate::blocks::RowChange;
-use base_types::{BlockNo, Scn, Xid};
 use crate::undo::{TxnSlot, UndoRecord};
+use base_types::{BlockNo, Scn, Xid};
 
 /// What a redo record is of.
 #[derive(Clone, Copy, Debug, PartialEq, Eq)]

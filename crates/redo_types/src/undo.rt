@@ -1,6 +1,5 @@
 use crate::blocks::ItlSlot;
-use base_types::{BlockNo, Scn};
-use base_types::Value;
+use base_types::{BlockNo, Scn, Value};
 
 /// What became of the transaction that took a slot last.
 #[derive(Clone, Copy, Debug, PartialEq, Eq)]

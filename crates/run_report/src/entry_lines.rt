@@ -62,9 +62,9 @@ impl fmt::Display for EntryText<'_> {
                 let inst = inst.0;
                 write!(f, "opened {name} {inst}")
             }
-            Entry::Started { stmt, s, .. } => {
-                let s = s.0;
-                write!(f, "started {stmt} {name} {s}")
+            Entry::Started { stmt, snapshot, .. } => {
+                let snapshot = snapshot.0;
+                write!(f, "started {stmt} {name} {snapshot}")
             }
             Entry::Rows { stmt, rows } => {
                 let rows = RowsText(rows);
@@ -106,18 +106,30 @@ impl fmt::Display for XidEntryText<'_> {
                 let row = row.0;
                 write!(f, "locked {stmt} {xid} {row}")
             }
-            Entry::Marked { stmt, xid, c } => {
-                let c = c.0;
-                write!(f, "marked {stmt} {xid} {c}")
+            Entry::Marked {
+                stmt,
+                xid,
+                commit_scn,
+            } => {
+                let commit_scn = commit_scn.0;
+                write!(f, "marked {stmt} {xid} {commit_scn}")
             }
-            Entry::Committed { xid, c, inst } => {
-                let c = c.0;
+            Entry::Committed {
+                xid,
+                commit_scn,
+                inst,
+            } => {
+                let commit_scn = commit_scn.0;
                 let inst = inst.0;
-                write!(f, "committed {xid} {c} {inst}")
+                write!(f, "committed {xid} {commit_scn} {inst}")
             }
-            Entry::Acked { stmt, xid, c } => {
-                let c = c.0;
-                write!(f, "acked {stmt} {xid} {c}")
+            Entry::Acked {
+                stmt,
+                xid,
+                commit_scn,
+            } => {
+                let commit_scn = commit_scn.0;
+                write!(f, "acked {stmt} {xid} {commit_scn}")
             }
             Entry::Undone { xid, left } => write!(f, "undone {xid} {left}"),
             Entry::Rolled { xid } => write!(f, "rolled {xid}"),

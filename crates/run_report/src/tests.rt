@@ -148,7 +148,7 @@ const ENTRIES: [Entry; 43] = [
     Entry::Started {
         stmt: 10000,
         session: 0,
-        s: Scn(0),
+        snapshot: Scn(0),
     },
     // A Plain of a put tells nothing.
     Entry::Plain { stmt: 12 },
@@ -183,17 +183,17 @@ const ENTRIES: [Entry; 43] = [
     Entry::Marked {
         stmt: 9,
         xid: XID,
-        c: LAST,
+        commit_scn: LAST,
     },
     Entry::Committed {
         xid: XID,
-        c: LAST,
+        commit_scn: LAST,
         inst: InstNo(2),
     },
     Entry::Acked {
         stmt: 9,
         xid: XID,
-        c: LAST,
+        commit_scn: LAST,
     },
     Entry::Plain { stmt: 10 },
     Entry::Refused {
@@ -466,7 +466,7 @@ fn a_journal_is_told(rt: HostRuntime) -> Result<(), Fail> {
     let journal = journal(alloc)?;
     let second: Wave = Sequence::from_vec(Vec::from_array(alloc, SECOND)?);
     let waves = Vec::from_array(alloc, [first_wave(alloc)?, second])?;
-    let told = tell_waves(alloc, waves.as_slice(), journal.as_slice())?;
+    let told = tell_waves(alloc, waves.as_slice(), &journal)?;
     assert_eq!(rt; told.as_str(), ANSWERS);
     let script = read_script(alloc, SCRIPT)?;
     assert!(rt; has_sessions(&script, journal.as_slice()));

@@ -6,10 +6,10 @@ ghost use Rattle.undo_image.specs.Header.{AreSlots, HeaderContent, IsHeader, emp
 ghost use Rattle.undo_image.specs.Status.{IsStatus};
 
 use crate::status::Status;
+use base_types::{BlockNo, InstNo, Scn, Xid};
 use part_image::{
     BlockFront, BlockKind, are_zeros, put_front, put_txn_slot, put_zeros, read_front, read_txn_slot,
 };
-use base_types::{BlockNo, InstNo, Scn, Xid};
 use redo_types::{BadBlock, TxnSlot, TxnState};
 use std::marker::Model;
 

@@ -4,11 +4,11 @@ ghost use Rattle.part_image.specs.Cells.{IsFirstWrong, Reads, spelled};
 ghost use Rattle.part_image.specs.Undo.{IsUndoRecord};
 ghost use Rattle.undo_image.specs.UndoBlock.{ArePlaces, UndoContent, IsUndoBlock, empty_undo_block, undo_bytes, undo_fields, record_at, places_cells, with_record};
 
+use base_types::{BlockNo, InstNo, Scn};
 use part_image::{
     BlockFront, BlockKind, are_zeros, put_front, put_undo_place, put_zeros, read_front,
     read_undo_place,
 };
-use base_types::{BlockNo, InstNo, Scn};
 use redo_types::{BadBlock, UndoRecord};
 use std::marker::Model;
 

@@ -1,6 +1,6 @@
 use Rattle.std.proofs.Common.{◌≡◌, ◌++◌, flat_map, string_bytes, take}
 use Rattle.run_report.specs.Journals.{journal_line}
-use Rattle.run_report.proofs.journal.push_lines.Given as goal
+use Rattle.run_report.proofs.entry_lines.push_lines.Given as goal
 
 abbrev pub invariant-loop-entry : goal.invariant-loop-entry
 invariant-loop-entry l =

@@ -2,7 +2,7 @@ use Rattle.std.proofs.Common.{rules}
 use Rattle.std.proofs.Output.{has_written_append, has_written_of_eq}
 use Rattle.run_report.specs.Journals.{member_text}
 use Rattle.run_report.proofs.Members.{flat_map-range-more}
-use Rattle.run_report.proofs.journal.MembersTextDisplay.fmt.Goals as goal
+use Rattle.run_report.proofs.entry_lines.MembersTextDisplay.fmt.Goals as goal
 
 pub loop-inst-preserved : goal.loop-inst-preserved
 loop-inst-preserved g c = λ plain.

@@ -2,7 +2,7 @@ use Rattle.std.proofs.Common.{flat_map}
 use Rattle.std.specs.List.{range_with_len}
 use Rattle.std.specs.Fmt.{HasWritten, IsPlainFormatter}
 use Rattle.run_report.specs.Journals.{member_text}
-use Rattle.run_report.proofs.journal.MembersTextDisplay.fmt.Given as goal
+use Rattle.run_report.proofs.entry_lines.MembersTextDisplay.fmt.Given as goal
 
 abbrev pub invariant-loop-inst : goal.invariant-loop-inst
 invariant-loop-inst g l =
