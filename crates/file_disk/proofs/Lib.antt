@@ -1,2 +1,3 @@
 pub mod LogFiles
+pub mod OpeningLemmas
 mod Room

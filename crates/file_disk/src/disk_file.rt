@@ -1,4 +1,4 @@
-ghost use Rattle.std.specs.Prelude.{◌≡◌, ◌≤◌, List, Option, length, IfOk, OnOk};
+ghost use Rattle.std.specs.Prelude.{◌≡◌, ◌≤◌, ℕ, List, Option, length, take, drop, IfOk, IfSome, OnOk};
 ghost use Rattle.file_disk.specs.Files.{FileCall, Written, Cut, Synced, added};
 
 use rac_disk::Failed;
@@ -8,14 +8,21 @@ pub trait DiskFile {
     /// The calls that changed it, the oldest first, where it tells them.
     ghost calls: { Self → Option (List FileCall) };
 
+    /// The bytes that it holds, where it tells them.
+    ghost holds: { Self → Option (List ℕ) };
+
     /// How many bytes it has.
     fn len(&mut self) -> Result<u64, Failed>
-        ensures { calls self.new ≡ calls self.old };
+        ensures len { IfOk result (λ len. IfSome (holds self.old) (λ bytes. len ≡ length bytes)) }
+        ensures calls { calls self.new ≡ calls self.old }
+        ensures holds { holds self.new ≡ holds self.old };
 
     /// Reads from a place on, until `out` is full or the file ends; how many bytes these are.
     fn read(&mut self, at: u64, out: &mut [u8]) -> Result<usize, Failed>
         ensures within { IfOk result (λ count. count ≤ length out.new) }
-        ensures calls { calls self.new ≡ calls self.old };
+        ensures bytes { IfOk result (λ count. IfSome (holds self.old) (λ bytes. take count out.new ≡ take (length out.new) (drop at bytes))) }
+        ensures calls { calls self.new ≡ calls self.old }
+        ensures holds { holds self.new ≡ holds self.old };
 
     /// Writes all the bytes from a place on. A failed write may have written any first part of them.
     fn write(&mut self, at: u64, bytes: &[u8]) -> Result<(), Failed>

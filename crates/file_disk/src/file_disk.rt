@@ -1,7 +1,8 @@
-ghost use Rattle.std.specs.Prelude.{◌≡◌, ◌≢◌, ℕ, ◌*◌, ◌+◌, ◌<◌, ◌≤◌, false, length, map, slice_index_or, slice_set, vec_len, MatchResult, Ok, IfOk, IsOk, IsErr, OnOk};
+ghost use Rattle.std.specs.Prelude.{◌≡◌, ◌≢◌, ℕ, ◌*◌, ◌+◌, ◌<◌, ◌≤◌, false, length, map, slice_index_or, vec_len, true, MatchResult, IfSome, Ok, IfOk, IsOk, IsErr, OnOk};
 ghost use Rattle.rac_io.specs.Counts.{Rose};
 ghost use Rattle.rac_disk.specs.Content.{IsDisk, log_at};
 ghost use Rattle.rac_disk.specs.Calls.{ReadsBlock, WritesBlock, Appends, CutsLog, GivesLength, ReadsLog, ReadsControl, WritesControl};
+ghost use Rattle.file_disk.specs.Opening.{HasBlocks, HasControls};
 ghost use Rattle.file_disk.specs.Files.{Written, Cut, log_calls, synced};
 
 #[cfg(test)]
@@ -94,6 +95,8 @@ impl<F: DiskFile + Drop> FileDisk<F> {
         logs: Vec<F>,
     ) -> Result<FileDisk<F>, NoMemory>
         requires { vec_len logs ≡ 8 }
+        ensures blocks { IfOk result (λ it. it.is_read ≡ true → IfSome (F.holds blocks) (λ bytes. HasBlocks 200 bytes it.kept.blocks)) }
+        ensures controls { IfOk result (λ it. it.is_read ≡ true → IfSome (F.holds control) (λ bytes. HasControls 8 bytes it.kept.controls)) }
         ensures faults { IfOk result (λ it. it.faults ≡ 0) }
         ensures full { IfOk result (λ it. it.full ≡ 0) }
     {
@@ -111,6 +114,8 @@ impl<F: DiskFile + Drop> FileDisk<F> {
     }
 
     fn read_files(&mut self) -> Result<(), Failed>
+        ensures blocks { OnOk result (IfSome (F.holds self.old.blocks) (λ bytes. HasBlocks 200 bytes self.new.kept.blocks)) }
+        ensures controls { OnOk result (IfSome (F.holds self.old.control) (λ bytes. HasControls 8 bytes self.new.kept.controls)) }
         ensures faults { self.new.faults ≡ self.old.faults }
         ensures full { self.new.full ≡ self.old.full }
     {

@@ -1,7 +1,8 @@
 //! Reading the files of a disk whole.
 
-ghost use Rattle.std.specs.Prelude.{◌≡◌, ◌<◌, ◌*◌, length, IfOk};
-ghost use Rattle.rac_disk.specs.Content.{IsDisk};
+ghost use Rattle.std.specs.Prelude.{◌≡◌, ◌<◌, ◌*◌, length, take, drop, IfOk, IfSome, OnOk};
+ghost use Rattle.rac_disk.specs.Content.{IsDisk, with_block, with_control};
+ghost use Rattle.file_disk.specs.Opening.{HasBlocks, HasControls};
 
 use crate::disk_file::DiskFile;
 use base_types::{BlockNo, InstNo};
@@ -36,7 +37,9 @@ pub fn entry_place(thread: InstNo) -> u64
 /// Reads all blocks. It fails where the file has more or fewer.
 pub fn read_blocks<F: DiskFile>(file: &mut F, content: &mut MemContent) -> Result<(), Failed>
     requires { IsDisk content.old }
-    ensures { IsDisk content.new }
+    ensures blocks { OnOk result (IfSome (F.holds file.old) (λ bytes. HasBlocks 200 bytes content.new.blocks)) }
+    ensures others { content.new ≡ record content.old { blocks = content.new.blocks } }
+    ensures is_disk { IsDisk content.new }
 {
     if file.len()? != u64::from(BLOCKS) * BLOCK_BYTES {
         return Err(Failed);
@@ -54,7 +57,10 @@ fn read_block<F: DiskFile>(
 ) -> Result<(), Failed>
     requires block { block < 200 }
     requires is_disk { IsDisk content.old }
-    ensures { IsDisk content.new }
+    ensures block { OnOk result (IfSome (F.holds file.old) (λ bytes. content.new ≡ with_block content.old block (take 512 (drop (block * 512) bytes)))) }
+    ensures others { content.new ≡ record content.old { blocks = content.new.blocks } }
+    ensures holds { F.holds file.new ≡ F.holds file.old }
+    ensures is_disk { IsDisk content.new }
 {
     let mut bytes = [0; 512];
     if file.read(block_place(block), &mut bytes)? < 512 {
@@ -67,7 +73,9 @@ fn read_block<F: DiskFile>(
 /// Reads all control entries. It fails where the file has more or fewer.
 pub fn read_controls<F: DiskFile>(file: &mut F, content: &mut MemContent) -> Result<(), Failed>
     requires { IsDisk content.old }
-    ensures { IsDisk content.new }
+    ensures controls { OnOk result (IfSome (F.holds file.old) (λ bytes. HasControls 8 bytes content.new.controls)) }
+    ensures others { content.new ≡ record content.old { controls = content.new.controls } }
+    ensures is_disk { IsDisk content.new }
 {
     if file.len()? != u64::from(THREADS) * ENTRY_BYTES {
         return Err(Failed);
@@ -85,7 +93,10 @@ fn read_control<F: DiskFile>(
 ) -> Result<(), Failed>
     requires thread { thread < 8 }
     requires is_disk { IsDisk content.old }
-    ensures { IsDisk content.new }
+    ensures control { OnOk result (IfSome (F.holds file.old) (λ bytes. content.new ≡ with_control content.old thread (take 32 (drop (thread * 32) bytes)))) }
+    ensures others { content.new ≡ record content.old { controls = content.new.controls } }
+    ensures holds { F.holds file.new ≡ F.holds file.old }
+    ensures is_disk { IsDisk content.new }
 {
     let mut bytes = [0; 32];
     if file.read(entry_place(thread), &mut bytes)? < 32 {
@@ -99,7 +110,8 @@ fn read_control<F: DiskFile>(
 pub fn read_logs<F: DiskFile>(files: &mut [F], content: &mut MemContent) -> Result<(), Failed>
     requires files { length files.old ≡ 8 }
     requires is_disk { IsDisk content.old }
-    ensures { IsDisk content.new }
+    ensures others { content.new ≡ record content.old { logs = content.new.logs } }
+    ensures is_disk { IsDisk content.new }
 {
     for thread in 0..THREADS {
         read_log(&mut files[usize::from(thread)], content, InstNo(thread))?;
@@ -114,7 +126,8 @@ fn read_log<F: DiskFile>(
 ) -> Result<(), Failed>
     requires thread { thread < 8 }
     requires is_disk { IsDisk content.old }
-    ensures { IsDisk content.new }
+    ensures others { content.new ≡ record content.old { logs = content.new.logs } }
+    ensures is_disk { IsDisk content.new }
 {
     let len = file.len()?;
     let mut left = len;
@@ -135,6 +148,7 @@ fn read_piece<F: DiskFile>(
     requires thread { thread < 8 }
     requires is_disk { IsDisk content.old }
     ensures some { IfOk result (λ count. 0 < count) }
+    ensures others { content.new ≡ record content.old { logs = content.new.logs } }
     ensures is_disk { IsDisk content.new }
 {
     let mut piece = [0; 4096];

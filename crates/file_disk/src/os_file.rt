@@ -35,6 +35,8 @@ impl<F> OsFile<F> {
 impl<F: Read + Write + Seek + OpenFile> DiskFile for OsFile<F> {
     ghost calls = { λ _. None };
 
+    ghost holds = { λ _. None };
+
     fn len(&mut self) -> Result<u64, Failed> {
         match &self.file {
             Some(file) => answer(len_of(file)),

@@ -5,8 +5,8 @@ ghost use Rattle.log_history.specs.Logs.{bytes_of};
 ghost use Rattle.log_audit.specs.Audits.{IsUnread, Keeps, logs_in};
 
 use crate::error::AuditError;
-use rac_disk::SharedDisk;
 use base_types::InstNo;
+use rac_disk::SharedDisk;
 use std::alloc::Global;
 
 /// Reads the log of a thread.

@@ -1,8 +1,8 @@
 ghost use Rattle.std.specs.Prelude.{◌≡◌, ◌++◌, IfOk, OnOk, Some, flat_map, string_bytes};
 ghost use Rattle.log_audit.specs.Texts.{audit_text, commit_text, end_text, history_line_text, torn_text};
 
-use log_history::HistoryLine;
 use base_types::{InstNo, NoMemory};
+use log_history::HistoryLine;
 use run_report::RowsText;
 use std::alloc::Global;
 use std::fmt;

@@ -45,9 +45,11 @@ impl WatchedFile {
 }
 
 impl DiskFile for WatchedFile {
-    ghost use Rattle.std.specs.Prelude.{None};
+    ghost use Rattle.std.specs.Prelude.{None, Some};
 
     ghost calls = { λ _. None };
+
+    ghost holds = { λ it. Some it.bytes.items };
 
     fn len(&mut self) -> Result<u64, Failed> {
         Ok(self.bytes.len() as u64)

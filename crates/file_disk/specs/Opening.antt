@@ -1,0 +1,12 @@
+-- What the files of a disk hold as it is opened.
+use Rattle.std.specs.Prelude.{◌≡◌, ◌<◌, ◌*◌, ℕ, List, [], take, drop, slice_index_or}
+
+-- The first blocks, so many, are those in the bytes of a file.
+abbrev pub HasBlocks : ℕ → List ℕ → List (List ℕ) → Type 0
+HasBlocks count bytes blocks =
+    (block : ℕ) → block < count → slice_index_or blocks block [] ≡ take 512 (drop (block * 512) bytes)
+
+-- The control entries of the first threads, so many, are those in the bytes of a file.
+abbrev pub HasControls : ℕ → List ℕ → List (List ℕ) → Type 0
+HasControls count bytes controls =
+    (thread : ℕ) → thread < count → slice_index_or controls thread [] ≡ take 32 (drop (thread * 32) bytes)
