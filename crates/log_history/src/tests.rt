@@ -1,6 +1,7 @@
 ghost use Rattle.std.specs.Prelude.{◌≤◌, length};
 
 use super::*;
+use base_types::InstNo;
 use std::alloc::{AllocError, Global};
 use std::test::Fail;
 
@@ -59,6 +60,29 @@ fn tell_line(alloc: Global, line: &HistoryLine) -> Result<String, AllocError> {
     Ok(told)
 }
 
+fn tell_lines(alloc: Global, lines: &[HistoryLine], told: &mut String) -> Result<(), AllocError> {
+    for line in lines {
+        told.push_str(tell_line(alloc, line)?.as_str())?;
+        told.push_str(";")?;
+    }
+    Ok(())
+}
+
+fn tell_ends(alloc: Global, torn: &[(InstNo, u64)], told: &mut String) -> Result<(), AllocError> {
+    for (thread, place) in torn {
+        let end = format!(in alloc; "torn {} {place};", thread.0)?;
+        told.push_str(end.as_str())?;
+    }
+    Ok(())
+}
+
+fn tell_error(alloc: Global, error: LogError) -> Result<String, AllocError> {
+    match error {
+        LogError::BadLog { thread, place } => format!(in alloc; "bad {} {place}", thread.0),
+        LogError::NoMemory => format!(in alloc; "no memory"),
+    }
+}
+
 /// The lines of the history and the torn ends of logs, or their error.
 fn tell(alloc: Global, logs: &[Vec<u8>]) -> Result<String, AllocError>
     requires { length logs.now ≤ 8 }
@@ -66,18 +90,11 @@ fn tell(alloc: Global, logs: &[Vec<u8>]) -> Result<String, AllocError>
     match history_of(alloc, logs) {
         Ok((lines, torn)) => {
             let mut told = String::new(alloc);
-            for line in &lines {
-                told.push_str(tell_line(alloc, line)?.as_str())?;
-                told.push_str(";")?;
-            }
-            for (thread, place) in &torn {
-                let end = format!(in alloc; "torn {} {place};", thread.0)?;
-                told.push_str(end.as_str())?;
-            }
+            tell_lines(alloc, lines.as_slice(), &mut told)?;
+            tell_ends(alloc, torn.as_slice(), &mut told)?;
             Ok(told)
         }
-        Err(LogError::BadLog { thread, place }) => { format!(in alloc; "bad {} {place}", thread.0) }
-        Err(LogError::NoMemory) => format!(in alloc; "no memory"),
+        Err(error) => tell_error(alloc, error),
     }
 }
 

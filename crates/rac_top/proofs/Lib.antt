@@ -1,0 +1,3 @@
+pub mod CreationLemmas
+pub mod AuditLemmas
+pub mod ReadingLemmas

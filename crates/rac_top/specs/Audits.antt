@@ -6,10 +6,18 @@ use Rattle.rac_disk.specs.State.{State}
 use Rattle.log_history.specs.Logs.{IsFirstWrong}
 use Rattle.log_audit.specs.Audits.{Tells, logs_in}
 use Rattle.rac_top.specs.declared.exit.End.{End}
-use Rattle.rac_top.specs.declared.exit.End.TheVariants.{LogsUnread}
+use Rattle.log_audit.specs.declared.error.AuditError.{AuditError}
+use Rattle.log_audit.specs.declared.error.AuditError.TheVariants as errors
+use Rattle.rac_top.specs.declared.exit.End.TheVariants.{LogsUnread, NoMemory, BadLog}
 use Rattle.rac_top.specs.declared.exit.Exit.{Exit}
 use Rattle.rac_top.specs.Ends.{AuditEndsFor, Stayed, is_done, is_told}
 use Rattle.rac_top.specs.Runs.{IsWritten}
+
+-- how an audit ends that told nothing
+abbrev pub end_of : AuditError → End
+end_of errors.Failed = LogsUnread
+end_of (errors.BadLog thread place) = BadLog thread place
+end_of errors.NoMemory = NoMemory
 
 -- no log of the disk is one that no run left
 abbrev pub HasGoodLogs : Content → Type 0

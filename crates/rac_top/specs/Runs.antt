@@ -8,16 +8,13 @@ use Rattle.rac_io.specs.Write.{AppendsPart}
 use Rattle.rac_disk.specs.Content.{room_at}
 use Rattle.rac_disk.specs.State.{State, IsCalm}
 use Rattle.journal.specs.declared.cause.Cause.TheVariants.{Lost}
-use Rattle.journal.specs.Past.{Past, Each}
-use Rattle.journal.specs.Good.{GoodJournal, GoodRows}
-use Rattle.script_text.specs.Asked.{asked}
-use Rattle.script_text.specs.GoodLines.{LineIsProper}
-use Rattle.script_text.specs.Lines.{AreAnswered}
-use Rattle.script_text.specs.Reading.{items_of}
+use Rattle.journal.specs.Past.{Past}
+use Rattle.script_text.specs.GoodLines.{AllAnswered}
 use Rattle.script_text.specs.Limits.{text_bytes}
 use Rattle.script_text.specs.ScriptParts.{ScriptParts}
 use Rattle.run_report.specs.Reports.{report_text}
 use Rattle.plain_node.specs.Ends.{causes_in, ends_in}
+use Rattle.plain_node.specs.Good.{GoodRun}
 use Rattle.plain_node.specs.Engine.{IsOneFault, LogsTell}
 use Rattle.plain_node.specs.RedoSize.{redo_size}
 use Rattle.rac_top.specs.declared.exit.End.{End}
@@ -40,13 +37,6 @@ ReportEnds faulted WriteFault = ⊤
 ReportEnds true end = end ≡ DiskFault
 ReportEnds false end = end ≡ Done
 
--- The journal of a run of a script is good: the rows that a statement asks for are those that its session sees, each
--- line is answered in order as it asks, and what the statements did is one history.
-pub record GoodRun (parts : ScriptParts) (past : Past) : Type 0 where
-  pub rows : GoodRows (asked parts) past
-  pub lines : Each (LineIsProper parts) past
-  pub journal : GoodJournal past
-
 -- A text was read, which is all that the source had left, where it tells that. It is a script; of it the journal is
 -- good, and its report was written, with the journal's own lines where they were asked for. At the end of a run that
 -- nothing ended before each statement is answered, and none is refused.
@@ -56,7 +46,7 @@ pub record RanScript (with_journal : Bool) (left left_now held held_now : Option
   pub all : IsAllOf left text × IsAtEnd left_now
   pub script : script_of text ≡ Ok parts
   pub good : GoodRun parts exit.journal
-  pub answered : exit.end ≡ Done → AreAnswered (items_of parts) exit.journal × (causes_in exit.journal ≡ [])
+  pub answered : exit.end ≡ Done → AllAnswered parts exit.journal × (causes_in exit.journal ≡ [])
   pub written : IsWritten exit.end (report_text parts exit.journal with_journal) held held_now
 
 -- Instances ended by faults of the disk alone: its two counts rose by at least as much as there are ends in the

@@ -1,6 +1,6 @@
 ghost use Rattle.std.specs.Prelude.{◌≡◌, [], ◌⊎◌, IfSome, IsSomeAnd, Some, true, false};
 ghost use Rattle.rac_io.specs.Counts.{Counts, Rose};
-ghost use Rattle.rac_top.specs.Audits.{HasGoodLogs, WritesHistory};
+ghost use Rattle.rac_top.specs.Audits.{HasGoodLogs, WritesHistory, end_of};
 ghost use Rattle.rac_top.specs.Ends.{AuditEndsFor, Stayed, is_done, is_told};
 ghost use Rattle.rac_top.specs.Runs.{IsWritten, ReportEnds};
 
@@ -20,6 +20,17 @@ fn write_text<K: Sink>(text: &[u8], sink: &mut K) -> End
         Ok(()) => End::Done,
         Err(WriteFault::Failed) => End::WriteFault,
         Err(WriteFault::Stalled) => End::WriteFault,
+    }
+}
+
+/// How an audit ends that told nothing.
+fn end_of(why: AuditError) -> End
+    ensures { result ≡ end_of why }
+{
+    match why {
+        AuditError::Failed => End::LogsUnread,
+        AuditError::BadLog { thread, place } => End::BadLog { thread, place },
+        AuditError::NoMemory => End::NoMemory,
     }
 }
 
@@ -47,10 +58,6 @@ pub fn audit<K: Sink, D: SharedDisk>(alloc: Global, sink: &mut K, disk: &mut D) 
 {
     match audit_logs(alloc, disk) {
         Ok(text) => Exit::without_run(alloc, write_text(text.as_slice(), sink)),
-        Err(AuditError::Failed) => Exit::without_run(alloc, End::LogsUnread),
-        Err(AuditError::BadLog { thread, place }) => {
-            Exit::without_run(alloc, End::BadLog { thread, place })
-        }
-        Err(AuditError::NoMemory) => Exit::without_run(alloc, End::NoMemory),
+        Err(why) => Exit::without_run(alloc, end_of(why)),
     }
 }

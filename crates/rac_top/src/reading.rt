@@ -27,6 +27,7 @@ fn within_one_session(script: Script) -> Result<Script, End>
     ensures says { Says result (run_or_refused (first_beyond (items_of script)) script) }
     ensures one_session { IfOk result (λ read. list_all (λ line. is_for_one_session line.1) (items_of read) ≡ true) }
     ensures well_formed { IfOk result IsWellFormed }
+    ensures no_fault { IsErrOf result End.ReadFault → ⊥ }
 {
     match first_beyond_one_session(&script) {
         None => Ok(script),

@@ -8,10 +8,7 @@ ghost use Rattle.script_text.specs.OneSession.{is_for_one_session};
 ghost use Rattle.script_text.specs.Reading.{items_of};
 ghost use Rattle.script_text.specs.WellFormed.{IsWellFormed};
 ghost use Rattle.run_report.specs.Reports.{report_text};
-ghost use Rattle.plain_node.specs.Engine.{IsOneFault};
-ghost use Rattle.plain_node.specs.Ran.{HasEmptyLogs, IsRan, Tells};
-ghost use Rattle.plain_node.specs.RedoSize.{redo_size};
-ghost use Rattle.rac_disk.specs.Content.{room_at};
+ghost use Rattle.plain_node.specs.Ran.{IsRan};
 ghost use Rattle.rac_top.specs.Creation.{MayBeCut};
 ghost use Rattle.rac_top.specs.Ends.{RunEndsFor, Stayed, is_before_disk, is_done, is_told};
 ghost use Rattle.rac_top.specs.Runs.{EndsByFaults, HasItsRoom, IsWritten, RanScript, RedoTells, ReportEnds};
@@ -30,7 +27,7 @@ use std::alloc::Global;
 
 /// A run, and its report.
 #[derive(Drop)]
-pub struct Run {
+pub struct Reported {
     pub ran: Ran,
     pub report: Vec<u8>,
 }
@@ -41,28 +38,25 @@ fn run_and_report<D: SharedDisk>(
     script: &Script,
     with_journal: bool,
     disk: &mut D,
-) -> Result<Run, NoMemory>
+) -> Result<Reported, NoMemory>
     requires well_formed { IsWellFormed script.now }
     requires one_session { list_all (λ line. is_for_one_session line.1) (items_of script.now) ≡ true }
     ensures ran { IfOk result (λ run. IsRan script.now (D.state disk.old) (D.state disk.new) run.ran) }
-    ensures tells { IfOk result (λ run. Tells (D.state disk.old).told (D.state disk.new).told (IsOneFault (D.state disk.old) (D.state disk.new)) run.ran.journal) }
-    ensures full { IfOk result (λ run. IfSome (D.state disk.old).told (λ it.
-        HasEmptyLogs it → redo_size run.ran.journal ≤ room_at it 0 → (D.state disk.new).full ≡ (D.state disk.old).full)) }
     ensures report { IfOk result (λ run. run.report.items ≡ report_text script.now run.ran.journal with_journal) }
 {
     let ran = run_script(alloc, script, disk)?;
     let report = report(alloc, script, &ran.journal, with_journal)?;
-    Ok(Run { ran, report })
+    Ok(Reported { ran, report })
 }
 
 /// Writes the report, and gives the exit.
-fn write_report<K: Sink>(run: Run, sink: &mut K) -> Exit
+fn write_report<K: Sink>(run: Reported, sink: &mut K) -> Exit
     ensures journal { result.journal ≡ run.ran.journal }
     ensures end { ReportEnds run.ran.faulted result.end }
     ensures written { IsWritten result.end run.report.items (K.holds sink.old) (K.holds sink.new) }
     ensures cause { result.end ≡ End.WriteFault → Rose (K.faults sink.old) (K.faults sink.new) ⊎ Rose (K.stalls sink.old) (K.stalls sink.new) }
 {
-    let Run { ran, report } = run;
+    let Reported { ran, report } = run;
     let end = match write_whole(sink, report.as_slice()) {
         Ok(()) if ran.faulted => End::DiskFault,
         Ok(()) => End::Done,
