@@ -10,8 +10,8 @@ use crate::item::Item;
 use crate::limits::{BUCKETS, SESSIONS, STEPS};
 use crate::rule::{LineError, Rule};
 use crate::said::Said;
-use crate::script::Wave;
 use crate::spelling::{keep_of, name_of, number_of};
+use crate::wave::Wave;
 use std::alloc::Global;
 use std::mem;
 
@@ -33,21 +33,24 @@ impl Said {
         }
         self.sessions.open(alloc, name)?;
         self.homes.push(inst)?;
-        self.push_item(Item::Session {
-            session: session as u16,
-            inst,
-        })?;
+        self.push_item(
+            alloc,
+            Item::Session {
+                session: session as u16,
+                inst,
+            },
+        )?;
         Ok(())
     }
 
     /// Adds an item that no other of the wave may clash with.
-    fn push_alone(&mut self, item: Item, rule: Rule) -> Result<(), LineError>
+    fn push_alone(&mut self, alloc: Global, item: Item, rule: Rule) -> Result<(), LineError>
         ensures { Takes result self.new (if is_apart self.old item then Ok (with_item self.old item) else Err rule) }
     {
         if !self.is_apart(&item) {
             return Err(LineError::Broken(rule));
         }
-        self.push_item(item)?;
+        self.push_item(alloc, item)?;
         Ok(())
     }
 
@@ -55,6 +58,7 @@ impl Said {
     #[tactic(auto, unfolding(crate::specs::Rules::judged, crate::specs::Forms::crash_after_line))]
     pub fn take_crash_after(
         &mut self,
+        alloc: Global,
         inst: &[u8],
         steps: &[u8],
         keep: &[u8],
@@ -73,33 +77,43 @@ impl Said {
             steps: steps as u32,
             keep,
         };
-        self.push_alone(item, Rule::Twice)
+        self.push_alone(alloc, item, Rule::Twice)
     }
 
     /// `crash I at mark keep K`
     #[tactic(auto, unfolding(crate::specs::Rules::judged, crate::specs::Forms::crash_mark_line))]
-    pub fn take_crash_mark(&mut self, inst: &[u8], keep: &[u8]) -> Result<(), LineError>
+    pub fn take_crash_mark(
+        &mut self,
+        alloc: Global,
+        inst: &[u8],
+        keep: &[u8],
+    ) -> Result<(), LineError>
         ensures { Takes result self.new (judged (crash_mark_line self.old inst.now keep.now)) }
     {
         let inst = number_of(inst)?;
         let keep = keep_of(keep)?;
         let inst = self.inst_of(inst)?;
-        self.push_alone(Item::CrashMark { inst, keep }, Rule::Twice)
+        self.push_alone(alloc, Item::CrashMark { inst, keep }, Rule::Twice)
     }
 
     /// `start I`
     #[tactic(auto, unfolding(crate::specs::Rules::judged, crate::specs::Forms::start_line))]
-    pub fn take_start(&mut self, inst: &[u8]) -> Result<(), LineError>
+    pub fn take_start(&mut self, alloc: Global, inst: &[u8]) -> Result<(), LineError>
         ensures { Takes result self.new (judged (start_line self.old inst.now)) }
     {
         let inst = number_of(inst)?;
         let inst = self.inst_of(inst)?;
-        self.push_alone(Item::Start { inst }, Rule::Twice)
+        self.push_alone(alloc, Item::Start { inst }, Rule::Twice)
     }
 
     /// `remaster B to I`
     #[tactic(auto, unfolding(crate::specs::Rules::judged, crate::specs::Forms::remaster_line))]
-    pub fn take_remaster(&mut self, bucket: &[u8], inst: &[u8]) -> Result<(), LineError>
+    pub fn take_remaster(
+        &mut self,
+        alloc: Global,
+        bucket: &[u8],
+        inst: &[u8],
+    ) -> Result<(), LineError>
         ensures { Takes result self.new (judged (remaster_line self.old bucket.now inst.now)) }
     {
         let bucket = number_of(bucket)?;
@@ -108,27 +122,30 @@ impl Said {
             return Err(LineError::Broken(Rule::Range));
         }
         let to = self.inst_of(inst)?;
-        self.push_item(Item::Remaster {
-            bucket: bucket as u8,
-            to,
-        })?;
+        self.push_item(
+            alloc,
+            Item::Remaster {
+                bucket: bucket as u8,
+                to,
+            },
+        )?;
         Ok(())
     }
 
     /// `checkpoint I`
     #[tactic(auto, unfolding(crate::specs::Rules::judged, crate::specs::Forms::checkpoint_line))]
-    pub fn take_checkpoint(&mut self, inst: &[u8]) -> Result<(), LineError>
+    pub fn take_checkpoint(&mut self, alloc: Global, inst: &[u8]) -> Result<(), LineError>
         ensures { Takes result self.new (judged (checkpoint_line self.old inst.now)) }
     {
         let inst = number_of(inst)?;
         let inst = self.inst_of(inst)?;
-        self.push_item(Item::Checkpoint { inst })?;
+        self.push_item(alloc, Item::Checkpoint { inst })?;
         Ok(())
     }
 
     /// `hold R until M`
     #[tactic(auto, unfolding(crate::specs::Rules::judged, crate::specs::Forms::hold_line))]
-    pub fn take_hold(&mut self, reader: &[u8], until: &[u8]) -> Result<(), LineError>
+    pub fn take_hold(&mut self, alloc: Global, reader: &[u8], until: &[u8]) -> Result<(), LineError>
         ensures { Takes result self.new (judged (hold_line self.old reader.now until.now)) }
     {
         let reader = name_of(reader)?;
@@ -138,7 +155,7 @@ impl Said {
         if reader == until || !self.are_together(reader, until) {
             return Err(LineError::Broken(Rule::Session));
         }
-        self.push_alone(Item::Hold { reader, until }, Rule::Session)
+        self.push_alone(alloc, Item::Hold { reader, until }, Rule::Session)
     }
 
     /// `go` ends the wave.

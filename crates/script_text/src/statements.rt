@@ -17,23 +17,32 @@ use std::alloc::Global;
 impl Said {
     /// `NAME: get K`
     #[tactic(auto, unfolding(crate::specs::Rules::judged, crate::specs::Forms::get_line))]
-    pub fn take_get(&mut self, name: &[u8], row: &[u8]) -> Result<(), LineError>
+    pub fn take_get(&mut self, alloc: Global, name: &[u8], row: &[u8]) -> Result<(), LineError>
         ensures { Takes result self.new (judged (get_line self.old name.now row.now)) }
     {
         let name = name_of(name)?;
         let row = number_of(row)?;
         let row = self.row_of(row)?;
         let session = self.session_of(name)?;
-        self.push_item(Item::Stmt {
-            session,
-            what: Stmt::Get(row),
-        })?;
+        self.push_item(
+            alloc,
+            Item::Stmt {
+                session,
+                what: Stmt::Get(row),
+            },
+        )?;
         Ok(())
     }
 
     /// `NAME: scan A B`
     #[tactic(auto, unfolding(crate::specs::Rules::judged, crate::specs::Forms::scan_line))]
-    pub fn take_scan(&mut self, name: &[u8], first: &[u8], last: &[u8]) -> Result<(), LineError>
+    pub fn take_scan(
+        &mut self,
+        alloc: Global,
+        name: &[u8],
+        first: &[u8],
+        last: &[u8],
+    ) -> Result<(), LineError>
         ensures { Takes result self.new (judged (scan_line self.old name.now first.now last.now)) }
     {
         let name = name_of(name)?;
@@ -45,16 +54,25 @@ impl Said {
         }
         let first_row = self.row_of(first)?;
         let session = self.session_of(name)?;
-        self.push_item(Item::Stmt {
-            session,
-            what: Stmt::Scan(first_row, last_row),
-        })?;
+        self.push_item(
+            alloc,
+            Item::Stmt {
+                session,
+                what: Stmt::Scan(first_row, last_row),
+            },
+        )?;
         Ok(())
     }
 
     /// `NAME: put K V`
     #[tactic(auto, unfolding(crate::specs::Rules::judged, crate::specs::Forms::put_line))]
-    pub fn take_put(&mut self, name: &[u8], row: &[u8], value: &[u8]) -> Result<(), LineError>
+    pub fn take_put(
+        &mut self,
+        alloc: Global,
+        name: &[u8],
+        row: &[u8],
+        value: &[u8],
+    ) -> Result<(), LineError>
         ensures { Takes result self.new (judged (put_line self.old name.now row.now value.now)) }
     {
         let name = name_of(name)?;
@@ -62,16 +80,25 @@ impl Said {
         let value = signed_number_of(value)?;
         let row = self.row_of(row)?;
         let session = self.session_of(name)?;
-        self.push_item(Item::Stmt {
-            session,
-            what: Stmt::Put(row, Value::Num(value)),
-        })?;
+        self.push_item(
+            alloc,
+            Item::Stmt {
+                session,
+                what: Stmt::Put(row, Value::Num(value)),
+            },
+        )?;
         Ok(())
     }
 
     /// `NAME: add K D`
     #[tactic(auto, unfolding(crate::specs::Rules::judged, crate::specs::Forms::add_line))]
-    pub fn take_add(&mut self, name: &[u8], row: &[u8], by: &[u8]) -> Result<(), LineError>
+    pub fn take_add(
+        &mut self,
+        alloc: Global,
+        name: &[u8],
+        row: &[u8],
+        by: &[u8],
+    ) -> Result<(), LineError>
         ensures { Takes result self.new (judged (add_line self.old name.now row.now by.now)) }
     {
         let name = name_of(name)?;
@@ -79,70 +106,85 @@ impl Said {
         let by = signed_number_of(by)?;
         let row = self.row_of(row)?;
         let session = self.session_of(name)?;
-        self.push_item(Item::Stmt {
-            session,
-            what: Stmt::Add(row, by),
-        })?;
+        self.push_item(
+            alloc,
+            Item::Stmt {
+                session,
+                what: Stmt::Add(row, by),
+            },
+        )?;
         Ok(())
     }
 
     /// `NAME: del K`
     #[tactic(auto, unfolding(crate::specs::Rules::judged, crate::specs::Forms::del_line))]
-    pub fn take_del(&mut self, name: &[u8], row: &[u8]) -> Result<(), LineError>
+    pub fn take_del(&mut self, alloc: Global, name: &[u8], row: &[u8]) -> Result<(), LineError>
         ensures { Takes result self.new (judged (del_line self.old name.now row.now)) }
     {
         let name = name_of(name)?;
         let row = number_of(row)?;
         let row = self.row_of(row)?;
         let session = self.session_of(name)?;
-        self.push_item(Item::Stmt {
-            session,
-            what: Stmt::Del(row),
-        })?;
+        self.push_item(
+            alloc,
+            Item::Stmt {
+                session,
+                what: Stmt::Del(row),
+            },
+        )?;
         Ok(())
     }
 
     /// `NAME: lock K`
     #[tactic(auto, unfolding(crate::specs::Rules::judged, crate::specs::Forms::lock_line))]
-    pub fn take_lock(&mut self, name: &[u8], row: &[u8]) -> Result<(), LineError>
+    pub fn take_lock(&mut self, alloc: Global, name: &[u8], row: &[u8]) -> Result<(), LineError>
         ensures { Takes result self.new (judged (lock_line self.old name.now row.now)) }
     {
         let name = name_of(name)?;
         let row = number_of(row)?;
         let row = self.row_of(row)?;
         let session = self.session_of(name)?;
-        self.push_item(Item::Stmt {
-            session,
-            what: Stmt::Lock(row),
-        })?;
+        self.push_item(
+            alloc,
+            Item::Stmt {
+                session,
+                what: Stmt::Lock(row),
+            },
+        )?;
         Ok(())
     }
 
     /// `NAME: commit`
     #[tactic(auto, unfolding(crate::specs::Rules::judged, crate::specs::Forms::commit_line))]
-    pub fn take_commit(&mut self, name: &[u8]) -> Result<(), LineError>
+    pub fn take_commit(&mut self, alloc: Global, name: &[u8]) -> Result<(), LineError>
         ensures { Takes result self.new (judged (commit_line self.old name.now)) }
     {
         let name = name_of(name)?;
         let session = self.session_of(name)?;
-        self.push_item(Item::Stmt {
-            session,
-            what: Stmt::Commit,
-        })?;
+        self.push_item(
+            alloc,
+            Item::Stmt {
+                session,
+                what: Stmt::Commit,
+            },
+        )?;
         Ok(())
     }
 
     /// `NAME: rollback`
     #[tactic(auto, unfolding(crate::specs::Rules::judged, crate::specs::Forms::rollback_line))]
-    pub fn take_rollback(&mut self, name: &[u8]) -> Result<(), LineError>
+    pub fn take_rollback(&mut self, alloc: Global, name: &[u8]) -> Result<(), LineError>
         ensures { Takes result self.new (judged (rollback_line self.old name.now)) }
     {
         let name = name_of(name)?;
         let session = self.session_of(name)?;
-        self.push_item(Item::Stmt {
-            session,
-            what: Stmt::Rollback,
-        })?;
+        self.push_item(
+            alloc,
+            Item::Stmt {
+                session,
+                what: Stmt::Rollback,
+            },
+        )?;
         Ok(())
     }
 
@@ -160,10 +202,13 @@ impl Said {
         let mark = name_of(mark)?;
         let session = self.session_of(name)?;
         let mark = Name::from_str(alloc, mark)?;
-        self.push_item(Item::Stmt {
-            session,
-            what: Stmt::Savepoint(mark),
-        })?;
+        self.push_item(
+            alloc,
+            Item::Stmt {
+                session,
+                what: Stmt::Savepoint(mark),
+            },
+        )?;
         Ok(())
     }
 
@@ -181,10 +226,13 @@ impl Said {
         let mark = name_of(mark)?;
         let session = self.session_of(name)?;
         let mark = Name::from_str(alloc, mark)?;
-        self.push_item(Item::Stmt {
-            session,
-            what: Stmt::RollbackTo(mark),
-        })?;
+        self.push_item(
+            alloc,
+            Item::Stmt {
+                session,
+                what: Stmt::RollbackTo(mark),
+            },
+        )?;
         Ok(())
     }
 }

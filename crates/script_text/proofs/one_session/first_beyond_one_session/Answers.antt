@@ -1,4 +1,4 @@
-use Rattle.std.proofs.Common.{sym, ◌∙◌, ◌≡◌, ◌<◌, ◌≤◌, ap, is_some, true, false, length, None, arith}
+use Rattle.std.proofs.Common.{sym, ◌∙◌, ◌≡◌, ◌<◌, ◌≤◌, ap, is_some, true, false, length, arith}
 use Rattle.script_text.specs.OneSession.{first_beyond}
 use Rattle.script_text.specs.Reading.{joined}
 use Rattle.script_text.proofs.BeyondLemmas.{beyond_here, beyond_later, beyond_nowhere, all_for_one}
