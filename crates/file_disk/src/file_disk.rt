@@ -2,8 +2,8 @@ ghost use Rattle.std.specs.Prelude.{◌≡◌, ◌≢◌, ℕ, ◌*◌, ◌+◌,
 ghost use Rattle.rac_io.specs.Counts.{Rose};
 ghost use Rattle.rac_disk.specs.Content.{IsDisk, log_at};
 ghost use Rattle.rac_disk.specs.Calls.{ReadsBlock, WritesBlock, Appends, CutsLog, GivesLength, ReadsLog, ReadsControl, WritesControl};
-ghost use Rattle.file_disk.specs.Opening.{HasBlocks, HasControls};
-ghost use Rattle.file_disk.specs.Files.{Written, Cut, log_calls, synced};
+ghost use Rattle.file_disk.specs.Opening.{HasBlocks, HasControls, HasEmptyLogs, HasLogs};
+ghost use Rattle.file_disk.specs.Files.{Written, Cut, of_log, synced};
 
 #[cfg(test)]
 mod tests;
@@ -97,6 +97,7 @@ impl<F: DiskFile + Drop> FileDisk<F> {
         requires { vec_len logs ≡ 8 }
         ensures blocks { IfOk result (λ it. it.is_read ≡ true → IfSome (F.holds blocks) (λ bytes. HasBlocks 200 bytes it.kept.blocks)) }
         ensures controls { IfOk result (λ it. it.is_read ≡ true → IfSome (F.holds control) (λ bytes. HasControls 8 bytes it.kept.controls)) }
+        ensures logs { IfOk result (λ it. it.is_read ≡ true → HasLogs 8 (map F.holds logs.items) it.kept) }
         ensures faults { IfOk result (λ it. it.faults ≡ 0) }
         ensures full { IfOk result (λ it. it.full ≡ 0) }
     {
@@ -114,8 +115,10 @@ impl<F: DiskFile + Drop> FileDisk<F> {
     }
 
     fn read_files(&mut self) -> Result<(), Failed>
+        requires { HasEmptyLogs 0 self.old.kept }
         ensures blocks { OnOk result (IfSome (F.holds self.old.blocks) (λ bytes. HasBlocks 200 bytes self.new.kept.blocks)) }
         ensures controls { OnOk result (IfSome (F.holds self.old.control) (λ bytes. HasControls 8 bytes self.new.kept.controls)) }
+        ensures logs { OnOk result (HasLogs 8 (map F.holds self.old.logs.items) self.new.kept) }
         ensures faults { self.new.faults ≡ self.old.faults }
         ensures full { self.new.full ≡ self.old.full }
     {
@@ -166,8 +169,8 @@ impl<F: DiskFile> SharedDisk for FileDisk<F> {
         requires { t < 8 }
         ensures disk { Appends t bytes.now result (state_of self.old) (state_of self.new) }
         ensures unread { self.old.is_read ≡ false → IsErr result }
-        ensures file { OnOk result (log_calls F.calls self.new.logs.items t ≡ synced (Written (length (log_at self.old.kept t)) bytes.now) (log_calls F.calls self.old.logs.items t)) }
-        ensures other_logs { (k : ℕ) → k ≢ t → log_calls F.calls self.new.logs.items k ≡ log_calls F.calls self.old.logs.items k }
+        ensures file { OnOk result (of_log F.calls self.new.logs.items t ≡ synced (Written (length (log_at self.old.kept t)) bytes.now) (of_log F.calls self.old.logs.items t)) }
+        ensures other_logs { (k : ℕ) → k ≢ t → of_log F.calls self.new.logs.items k ≡ of_log F.calls self.old.logs.items k }
         ensures others { (self.new.blocks ≡ self.old.blocks) × (self.new.control ≡ self.old.control) }
     {
         if !self.is_read {
@@ -191,8 +194,8 @@ impl<F: DiskFile> SharedDisk for FileDisk<F> {
         requires { t < 8 }
         ensures disk { CutsLog t len result (state_of self.old) (state_of self.new) }
         ensures unread { self.old.is_read ≡ false → IsErr result }
-        ensures file { OnOk result (log_calls F.calls self.new.logs.items t ≡ synced (Cut len) (log_calls F.calls self.old.logs.items t)) }
-        ensures other_logs { (k : ℕ) → k ≢ t → log_calls F.calls self.new.logs.items k ≡ log_calls F.calls self.old.logs.items k }
+        ensures file { OnOk result (of_log F.calls self.new.logs.items t ≡ synced (Cut len) (of_log F.calls self.old.logs.items t)) }
+        ensures other_logs { (k : ℕ) → k ≢ t → of_log F.calls self.new.logs.items k ≡ of_log F.calls self.old.logs.items k }
         ensures others { (self.new.blocks ≡ self.old.blocks) × (self.new.control ≡ self.old.control) }
     {
         if !self.is_read {
