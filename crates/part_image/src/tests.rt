@@ -65,10 +65,10 @@ const ENDED: TxnSlot = TxnSlot {
 #[test]
 fn what_is_put_is_read(rt: HostRuntime) {
     let mut bytes = [0xff; 200];
-    for slot in [UNUSED, USED] {
-        put_itl(&mut bytes, 3, slot);
-        assert_eq!(rt; read_itl(&bytes, 3), Some(slot));
-    }
+    put_itl(&mut bytes, 3, UNUSED);
+    assert_eq!(rt; read_itl(&bytes, 3), Some(UNUSED));
+    put_itl(&mut bytes, 3, USED);
+    assert_eq!(rt; read_itl(&bytes, 3), Some(USED));
     let used = [7, 3, 0, 0, 1, 2, 3, 4, 0, 0, 0, 0, 0, 0, 5, 6];
     assert!(rt; &bytes[3..19] == used.as_slice());
     put_txn_slot(&mut bytes, 5, ENDED);

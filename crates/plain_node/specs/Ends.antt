@@ -19,7 +19,7 @@ ends_in past = filter_map end_by past
 
 -- the end of the one instance by a fault of the disk
 abbrev pub fault_end : List (InstNo × Bool)
-fault_end = (record { 0 = 0 }, false) ∷ []
+fault_end = (0, false) ∷ []
 
 -- why an entry refuses a statement
 abbrev pub cause_by : Entry → Option Cause

@@ -20,7 +20,7 @@ pub fn least_used(slots: &[SlotUse]) -> usize
 {
     let mut least = 0;
     for at in 1..slots.len() {
-        if slots[at].end.0 < slots[least].end.0 {
+        if slots[at].end.get() < slots[least].end.get() {
             least = at;
         }
     }

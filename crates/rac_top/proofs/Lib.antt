@@ -1,4 +1,0 @@
-pub mod ReadingLemmas
-pub mod ExitLemmas
-pub mod CreationLemmas
-pub mod AuditLemmas

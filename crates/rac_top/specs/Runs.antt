@@ -8,14 +8,17 @@ use Rattle.rac_io.specs.Write.{AppendsPart}
 use Rattle.rac_disk.specs.Content.{room_at}
 use Rattle.rac_disk.specs.State.{State, IsCalm}
 use Rattle.journal.specs.declared.cause.Cause.TheVariants.{Lost}
-use Rattle.journal.specs.Past.{Past}
-use Rattle.script_text.specs.GoodLines.{AllAnswered}
+use Rattle.journal.specs.Past.{Past, Each}
+use Rattle.journal.specs.Good.{GoodJournal, GoodRows}
+use Rattle.script_text.specs.Asked.{asked}
+use Rattle.script_text.specs.GoodLines.{LineIsProper}
+use Rattle.script_text.specs.Lines.{AreAnswered}
+use Rattle.script_text.specs.Reading.{items_of}
 use Rattle.script_text.specs.Limits.{text_bytes}
 use Rattle.script_text.specs.ScriptParts.{ScriptParts}
 use Rattle.run_report.specs.Reports.{report_text}
 use Rattle.plain_node.specs.Ends.{causes_in, ends_in}
 use Rattle.plain_node.specs.Engine.{IsOneFault, LogsTell}
-use Rattle.plain_node.specs.Good.{GoodRun}
 use Rattle.plain_node.specs.RedoSize.{redo_size}
 use Rattle.rac_top.specs.declared.exit.End.{End}
 use Rattle.rac_top.specs.declared.exit.End.TheVariants.{Done, ReadFault, WriteFault, DiskFault, NotCreated}
@@ -37,17 +40,24 @@ ReportEnds faulted WriteFault = ⊤
 ReportEnds true end = end ≡ DiskFault
 ReportEnds false end = end ≡ Done
 
+-- The journal of a run of a script is good: the rows that a statement asks for are those that its session sees, each
+-- line is answered in order as it asks, and what the statements did is one history.
+pub record GoodRun (parts : ScriptParts) (past : Past) : Type 0 where
+  pub rows : GoodRows (asked parts) past
+  pub lines : Each (LineIsProper parts) past
+  pub journal : GoodJournal past
+
 -- A text was read, which is all that the source had left, where it tells that. It is a script; of it the journal is
 -- good, and its report was written, with the journal's own lines where they were asked for. At the end of a run that
 -- nothing ended before each statement is answered, and none is refused.
-pub record RanScript (asked : Bool) (left left_now held held_now : Option (List ℕ)) (exit : Exit) : Type 0 where
+pub record RanScript (with_journal : Bool) (left left_now held held_now : Option (List ℕ)) (exit : Exit) : Type 0 where
   pub text : List ℕ
   pub parts : ScriptParts
   pub all : IsAllOf left text × IsAtEnd left_now
   pub script : script_of text ≡ Ok parts
   pub good : GoodRun parts exit.journal
-  pub answered : exit.end ≡ Done → AllAnswered parts exit.journal × (causes_in exit.journal ≡ [])
-  pub written : IsWritten exit.end (report_text parts exit.journal asked) held held_now
+  pub answered : exit.end ≡ Done → AreAnswered (items_of parts) exit.journal × (causes_in exit.journal ≡ [])
+  pub written : IsWritten exit.end (report_text parts exit.journal with_journal) held held_now
 
 -- Instances ended by faults of the disk alone: its two counts rose by at least as much as there are ends in the
 -- journal, or one of them stands at its last value. Each end refuses the statement under way as lost, and nothing else
@@ -70,7 +80,7 @@ RedoTells past disk disk_now =
     IsSome disk.told → IsOneFault disk disk_now → IsSomeAnd disk_now.told (λ it. LogsTell it past)
 
 -- What a run promises of its source, its sink, its disk and its exit, each before the call and now.
-pub record Runs (asked : Bool) (left left_now : Option (List ℕ)) (read read_now : ℕ)
+pub record Runs (with_journal : Bool) (left left_now : Option (List ℕ)) (read read_now : ℕ)
     (held held_now : Option (List ℕ)) (wrote wrote_now stalled stalled_now : ℕ) (disk disk_now : State) (exit : Exit)
     : Type 0 where
   -- why it ends as it does, and that it ends with a read fault exactly where the source failed
@@ -78,7 +88,7 @@ pub record Runs (asked : Bool) (left left_now : Option (List ℕ)) (read read_no
   pub read_fault : Counts (exit.end ≡ ReadFault) read read_now
   -- what was read, run and written
   pub reads : TakesUpTo text_bytes left left_now
-  pub ran : is_told exit.end ≡ true → RanScript asked left left_now held held_now exit
+  pub ran : is_told exit.end ≡ true → RanScript with_journal left left_now held held_now exit
   pub silent : is_told exit.end ≡ false → (exit.journal ≡ []) × (held_now ≡ held)
   -- what the disk has
   pub untouched : is_before_disk exit.end ≡ true → disk_now ≡ disk

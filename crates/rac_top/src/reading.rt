@@ -4,10 +4,11 @@ ghost use Rattle.std.specs.List.{list_all};
 ghost use Rattle.rac_io.specs.Counts.{Counts};
 ghost use Rattle.rac_io.specs.Read.{TakesUpTo};
 ghost use Rattle.script_text.specs.Limits.{text_bytes};
-ghost use Rattle.script_text.specs.OneSession.{is_for_one_session};
+ghost use Rattle.script_text.specs.OneSession.{first_beyond, is_for_one_session};
 ghost use Rattle.script_text.specs.Reading.{items_of};
 ghost use Rattle.script_text.specs.WellFormed.{IsWellFormed};
 ghost use Rattle.rac_top.specs.Reads.{Says, SaysAll};
+ghost use Rattle.rac_top.specs.Scripts.{run_or_refused, script_of};
 
 use crate::exit::End;
 use rac_io::{ReadError, Source, read_limited};

@@ -1,4 +1,4 @@
-ghost use Rattle.std.specs.Prelude.{◌≡◌, ◌⊎◌, [], true, false, IfOk};
+ghost use Rattle.std.specs.Prelude.{◌≡◌, ◌⊎◌, ◌≤◌, [], true, false, IfOk, IfSome};
 ghost use Rattle.std.specs.List.{list_all};
 ghost use Rattle.rac_io.specs.Counts.{Counts, Rose};
 ghost use Rattle.rac_io.specs.Read.{TakesUpTo};
@@ -8,7 +8,10 @@ ghost use Rattle.script_text.specs.OneSession.{is_for_one_session};
 ghost use Rattle.script_text.specs.Reading.{items_of};
 ghost use Rattle.script_text.specs.WellFormed.{IsWellFormed};
 ghost use Rattle.run_report.specs.Reports.{report_text};
-ghost use Rattle.plain_node.specs.Ran.{IsRan};
+ghost use Rattle.plain_node.specs.Engine.{IsOneFault};
+ghost use Rattle.plain_node.specs.Ran.{HasEmptyLogs, IsRan, Tells};
+ghost use Rattle.plain_node.specs.RedoSize.{redo_size};
+ghost use Rattle.rac_disk.specs.Content.{room_at};
 ghost use Rattle.rac_top.specs.Creation.{MayBeCut};
 ghost use Rattle.rac_top.specs.Ends.{RunEndsFor, Stayed, is_before_disk, is_done, is_told};
 ghost use Rattle.rac_top.specs.Runs.{EndsByFaults, HasItsRoom, IsWritten, RanScript, RedoTells, ReportEnds};
@@ -42,6 +45,9 @@ fn run_and_report<D: SharedDisk>(
     requires well_formed { IsWellFormed script.now }
     requires one_session { list_all (λ line. is_for_one_session line.1) (items_of script.now) ≡ true }
     ensures ran { IfOk result (λ run. IsRan script.now (D.state disk.old) (D.state disk.new) run.ran) }
+    ensures tells { IfOk result (λ run. Tells (D.state disk.old).told (D.state disk.new).told (IsOneFault (D.state disk.old) (D.state disk.new)) run.ran.journal) }
+    ensures full { IfOk result (λ run. IfSome (D.state disk.old).told (λ it.
+        HasEmptyLogs it → redo_size run.ran.journal ≤ room_at it 0 → (D.state disk.new).full ≡ (D.state disk.old).full)) }
     ensures report { IfOk result (λ run. run.report.items ≡ report_text script.now run.ran.journal with_journal) }
 {
     let ran = run_script(alloc, script, disk)?;

@@ -1,10 +1,10 @@
 use crate::{End, Exit, rac};
-use log_history::{HistoryLine, history_of};
-use rac_disk::{CallKind, MemDisk, Planned, SharedDisk};
-use rac_io::{MemSink, MemSource};
 use base_types::{InstNo, RowNo, Scn, Value, Xid};
 use journal::{Entry, Journal};
 use journal_check::check;
+use log_history::{HistoryLine, history_of};
+use rac_disk::{CallKind, MemDisk, Planned, SharedDisk};
+use rac_io::{MemSink, MemSource};
 use script_text::Rule;
 use std::alloc::{AllocError, Global};
 use std::process::Abort;
@@ -212,14 +212,7 @@ const CASES: [Case<'static>; 23] = [
 ];
 
 /// Looks at how a call ended, and at what it wrote.
-fn look(
-    rt: &impl Abort,
-    number: usize,
-    exit: &Exit,
-    sink: &MemSink,
-    end: &End,
-    written: &str,
-) {
+fn look(rt: &impl Abort, number: usize, exit: &Exit, sink: &MemSink, end: &End, written: &str) {
     assert_eq!(rt; exit.end, *end, "case {number}");
     assert_eq!(rt; sink.bytes(), written.as_bytes(), "case {number}");
 }
@@ -228,14 +221,7 @@ fn look(
 fn ends_as_it_should(rt: HostRuntime) -> Result<(), Fail> {
     for (number, case) in CASES.iter().enumerate() {
         let (exit, sink, _) = call(&rt, case)?;
-        look(
-            &rt,
-            number,
-            &exit,
-            &sink,
-            &case.end,
-            case.written,
-        );
+        look(&rt, number, &exit, &sink, &case.end, case.written);
     }
     Ok(())
 }
@@ -459,14 +445,7 @@ fn tells_what_the_logs_have(rt: HostRuntime) -> Result<(), Fail> {
         let mut disk = MemDisk::new(alloc, 200, 1000, case.disk_fails.to_vec(alloc)?)?;
         disk.append(InstNo(0), case.log)?;
         let (exit, sink) = audit(&rt, &mut disk, case.room)?;
-        look(
-            &rt,
-            number,
-            &exit,
-            &sink,
-            &case.end,
-            case.written,
-        );
+        look(&rt, number, &exit, &sink, &case.end, case.written);
     }
     Ok(())
 }

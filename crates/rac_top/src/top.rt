@@ -25,10 +25,10 @@ pub fn rac<S: Source, K: Sink, D: SharedDisk>(
     // Words that ask a run make a run, and words that ask an audit make an audit. Other words are wrong.
     ensures does { ByOrder (order_in (map string_bytes words.now))
         (λ asked. Runs asked (S.left source.old) (S.left source.new) (S.faults source.old) (S.faults source.new)
-            (K.holds sink.old) (K.holds sink.new) (K.faults sink.old) (K.faults sink.new) (K.stalls sink.old) (K.stalls sink.new)
-            (D.state disk.old) (D.state disk.new) result)
+        (K.holds sink.old) (K.holds sink.new) (K.faults sink.old) (K.faults sink.new) (K.stalls sink.old) (K.stalls sink.new)
+        (D.state disk.old) (D.state disk.new) result)
         (Audits (K.holds sink.old) (K.holds sink.new) (K.faults sink.old) (K.faults sink.new) (K.stalls sink.old) (K.stalls sink.new)
-            (D.state disk.old) (D.state disk.new) result)
+        (D.state disk.old) (D.state disk.new) result)
         ((result.end ≡ End.WrongWords) ⊎ (result.end ≡ End.NoMemory)) }
     // An audit reads nothing of the source; wrong words touch nothing.
     ensures unread { ByOrder (order_in (map string_bytes words.now)) (λ asked. Unit {0}) (source.new ≡ source.old)
