@@ -17,6 +17,6 @@ added call (Some calls) = Some (calls ++ call ∷ [])
 abbrev pub synced : FileCall → Option (List FileCall) → Option (List FileCall)
 synced call calls = added Synced (added call calls)
 
--- the calls of the file of a thread's log
-abbrev pub log_calls : {F : Type 0} → (F → Option (List FileCall)) → List F → ℕ → Option (List FileCall)
-log_calls calls_of files thread = slice_index_or (map calls_of files) thread None
+-- what the file of a thread's log tells
+abbrev pub of_log : {F A : Type 0} → (F → Option A) → List F → ℕ → Option A
+of_log tells files thread = slice_index_or (map tells files) thread None

@@ -2,8 +2,8 @@ ghost use Rattle.std.specs.Prelude.{◌≡◌, ◌≢◌, ℕ, ◌*◌, ◌+◌,
 ghost use Rattle.rac_io.specs.Counts.{Rose};
 ghost use Rattle.rac_disk.specs.Content.{IsDisk, log_at};
 ghost use Rattle.rac_disk.specs.Calls.{ReadsBlock, WritesBlock, Appends, CutsLog, GivesLength, ReadsLog, ReadsControl, WritesControl};
-ghost use Rattle.file_disk.specs.Opening.{HasBlocks, HasControls};
-ghost use Rattle.file_disk.specs.Files.{Written, Cut, log_calls, synced};
+ghost use Rattle.file_disk.specs.Opening.{HasBlocks, HasControls, HasEmptyLogs, HasLogs};
+ghost use Rattle.file_disk.specs.Files.{Written, Cut, of_log, synced};
 
 #[cfg(test)]
 mod tests;
@@ -97,6 +97,7 @@ impl<F: DiskFile + Drop> FileDisk<F> {
         requires { vec_len logs ≡ 8 }
         ensures blocks { IfOk result (λ it. it.is_read ≡ true → IfSome (F.holds blocks) (λ bytes. HasBlocks 200 bytes it.kept.blocks)) }
         ensures controls { IfOk result (λ it. it.is_read ≡ true → IfSome (F.holds control) (λ bytes. HasControls 8 bytes it.kept.controls)) }
+        ensures logs { IfOk result (λ it. it.is_read ≡ true → HasLogs 8 (map F.holds logs.items) it.kept) }
         ensures faults { IfOk result (λ it. it.faults ≡ 0) }
         ensures full { IfOk result (λ it. it.full ≡ 0) }
     {
@@ -114,8 +115,10 @@ impl<F: DiskFile + Drop> FileDisk<F> {
     }
 
     fn read_files(&mut self) -> Result<(), Failed>
+        requires { HasEmptyLogs 0 self.old.kept }
         ensures blocks { OnOk result (IfSome (F.holds self.old.blocks) (λ bytes. HasBlocks 200 bytes self.new.kept.blocks)) }
         ensures controls { OnOk result (IfSome (F.holds self.old.control) (λ bytes. HasControls 8 bytes self.new.kept.controls)) }
+        ensures logs { OnOk result (HasLogs 8 (map F.holds self.old.logs.items) self.new.kept) }
         ensures faults { self.new.faults ≡ self.old.faults }
         ensures full { self.new.full ≡ self.old.full }
     {
@@ -126,14 +129,14 @@ impl<F: DiskFile + Drop> FileDisk<F> {
 }
 
 impl<F: DiskFile> SharedDisk for FileDisk<F> {
-    ghost use Rattle.file_disk.specs.Told.{state_of};
+    ghost use Rattle.file_disk.specs.Told.{blocks_file, control_file, is_read_whole, kept_of, log_files, state_of};
 
     ghost state = { state_of };
 
     fn read_block(&mut self, b: BlockNo, out: &mut [u8; 512]) -> Result<(), Failed>
         requires { b < 200 }
         ensures disk { ReadsBlock b out.new result (state_of self.old) (state_of self.new) }
-        ensures unread { self.old.is_read ≡ false → IsErr result }
+        ensures unread { is_read_whole self.old ≡ false → IsErr result }
     {
         if !self.is_read {
             return fault(&mut self.faults);
@@ -147,9 +150,9 @@ impl<F: DiskFile> SharedDisk for FileDisk<F> {
     fn write_block(&mut self, b: BlockNo, bytes: &[u8; 512]) -> Result<(), Failed>
         requires { b < 200 }
         ensures disk { WritesBlock b bytes.now result (state_of self.old) (state_of self.new) }
-        ensures unread { self.old.is_read ≡ false → IsErr result }
-        ensures file { OnOk result (F.calls self.new.blocks ≡ synced (Written (b * 512) bytes.now) (F.calls self.old.blocks)) }
-        ensures others { (self.new.control ≡ self.old.control) × (self.new.logs.items ≡ self.old.logs.items) }
+        ensures unread { is_read_whole self.old ≡ false → IsErr result }
+        ensures file { OnOk result (F.calls (blocks_file self.new) ≡ synced (Written (b * 512) bytes.now) (F.calls (blocks_file self.old))) }
+        ensures others { (control_file self.new ≡ control_file self.old) × (log_files self.new ≡ log_files self.old) }
     {
         if !self.is_read {
             return fault(&mut self.faults);
@@ -165,10 +168,10 @@ impl<F: DiskFile> SharedDisk for FileDisk<F> {
     fn append(&mut self, t: InstNo, bytes: &[u8]) -> Result<(), Failed>
         requires { t < 8 }
         ensures disk { Appends t bytes.now result (state_of self.old) (state_of self.new) }
-        ensures unread { self.old.is_read ≡ false → IsErr result }
-        ensures file { OnOk result (log_calls F.calls self.new.logs.items t ≡ synced (Written (length (log_at self.old.kept t)) bytes.now) (log_calls F.calls self.old.logs.items t)) }
-        ensures other_logs { (k : ℕ) → k ≢ t → log_calls F.calls self.new.logs.items k ≡ log_calls F.calls self.old.logs.items k }
-        ensures others { (self.new.blocks ≡ self.old.blocks) × (self.new.control ≡ self.old.control) }
+        ensures unread { is_read_whole self.old ≡ false → IsErr result }
+        ensures file { OnOk result (of_log F.calls (log_files self.new) t ≡ synced (Written (length (log_at (kept_of self.old) t)) bytes.now) (of_log F.calls (log_files self.old) t)) }
+        ensures other_logs { (k : ℕ) → k ≢ t → of_log F.calls (log_files self.new) k ≡ of_log F.calls (log_files self.old) k }
+        ensures others { (blocks_file self.new ≡ blocks_file self.old) × (control_file self.new ≡ control_file self.old) }
     {
         if !self.is_read {
             return fault(&mut self.faults);
@@ -190,10 +193,10 @@ impl<F: DiskFile> SharedDisk for FileDisk<F> {
     fn cut_log(&mut self, t: InstNo, len: u64) -> Result<(), Failed>
         requires { t < 8 }
         ensures disk { CutsLog t len result (state_of self.old) (state_of self.new) }
-        ensures unread { self.old.is_read ≡ false → IsErr result }
-        ensures file { OnOk result (log_calls F.calls self.new.logs.items t ≡ synced (Cut len) (log_calls F.calls self.old.logs.items t)) }
-        ensures other_logs { (k : ℕ) → k ≢ t → log_calls F.calls self.new.logs.items k ≡ log_calls F.calls self.old.logs.items k }
-        ensures others { (self.new.blocks ≡ self.old.blocks) × (self.new.control ≡ self.old.control) }
+        ensures unread { is_read_whole self.old ≡ false → IsErr result }
+        ensures file { OnOk result (of_log F.calls (log_files self.new) t ≡ synced (Cut len) (of_log F.calls (log_files self.old) t)) }
+        ensures other_logs { (k : ℕ) → k ≢ t → of_log F.calls (log_files self.new) k ≡ of_log F.calls (log_files self.old) k }
+        ensures others { (blocks_file self.new ≡ blocks_file self.old) × (control_file self.new ≡ control_file self.old) }
     {
         if !self.is_read {
             return fault(&mut self.faults);
@@ -208,7 +211,7 @@ impl<F: DiskFile> SharedDisk for FileDisk<F> {
     fn log_len(&mut self, t: InstNo) -> Result<u64, Failed>
         requires { t < 8 }
         ensures disk { GivesLength t result (state_of self.old) (state_of self.new) }
-        ensures unread { self.old.is_read ≡ false → IsErr result }
+        ensures unread { is_read_whole self.old ≡ false → IsErr result }
     {
         if !self.is_read {
             return fault(&mut self.faults);
@@ -221,7 +224,7 @@ impl<F: DiskFile> SharedDisk for FileDisk<F> {
     fn read_log(&mut self, t: InstNo, at: u64, out: &mut [u8]) -> Result<usize, Failed>
         requires { t < 8 }
         ensures disk { ReadsLog t at out.new result (state_of self.old) (state_of self.new) }
-        ensures unread { self.old.is_read ≡ false → IsErr result }
+        ensures unread { is_read_whole self.old ≡ false → IsErr result }
     {
         if !self.is_read {
             return fault(&mut self.faults);
@@ -235,7 +238,7 @@ impl<F: DiskFile> SharedDisk for FileDisk<F> {
     fn read_control(&mut self, t: InstNo, out: &mut [u8; 32]) -> Result<(), Failed>
         requires { t < 8 }
         ensures disk { ReadsControl t out.new result (state_of self.old) (state_of self.new) }
-        ensures unread { self.old.is_read ≡ false → IsErr result }
+        ensures unread { is_read_whole self.old ≡ false → IsErr result }
     {
         if !self.is_read {
             return fault(&mut self.faults);
@@ -249,9 +252,9 @@ impl<F: DiskFile> SharedDisk for FileDisk<F> {
     fn write_control(&mut self, t: InstNo, bytes: &[u8; 32]) -> Result<(), Failed>
         requires { t < 8 }
         ensures disk { WritesControl t bytes.now result (state_of self.old) (state_of self.new) }
-        ensures unread { self.old.is_read ≡ false → IsErr result }
-        ensures file { OnOk result (F.calls self.new.control ≡ synced (Written (t * 32) bytes.now) (F.calls self.old.control)) }
-        ensures others { (self.new.blocks ≡ self.old.blocks) × (self.new.logs.items ≡ self.old.logs.items) }
+        ensures unread { is_read_whole self.old ≡ false → IsErr result }
+        ensures file { OnOk result (F.calls (control_file self.new) ≡ synced (Written (t * 32) bytes.now) (F.calls (control_file self.old))) }
+        ensures others { (blocks_file self.new ≡ blocks_file self.old) × (log_files self.new ≡ log_files self.old) }
     {
         if !self.is_read {
             return fault(&mut self.faults);

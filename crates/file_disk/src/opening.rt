@@ -1,8 +1,8 @@
 //! Reading the files of a disk whole.
 
-ghost use Rattle.std.specs.Prelude.{◌≡◌, ◌<◌, ◌*◌, length, take, drop, IfOk, IfSome, OnOk};
-ghost use Rattle.rac_disk.specs.Content.{IsDisk, with_block, with_control};
-ghost use Rattle.file_disk.specs.Opening.{HasBlocks, HasControls};
+ghost use Rattle.std.specs.Prelude.{◌≡◌, ◌≢◌, ◌<◌, ◌*◌, ◌-◌, ◌++◌, ℕ, [], length, map, take, drop, min, IfOk, IfSome, OnOk};
+ghost use Rattle.rac_disk.specs.Content.{IsDisk, log_at, with_block, with_control};
+ghost use Rattle.file_disk.specs.Opening.{HasBlocks, HasControls, HasEmptyLogs, HasLogs};
 
 use crate::disk_file::DiskFile;
 use base_types::{BlockNo, InstNo};
@@ -106,10 +106,12 @@ fn read_control<F: DiskFile>(
     Ok(())
 }
 
-/// Reads all logs. It fails where one is longer than its room.
+/// Reads all logs, where none was read yet. It fails where one is longer than its room.
 pub fn read_logs<F: DiskFile>(files: &mut [F], content: &mut MemContent) -> Result<(), Failed>
     requires files { length files.old ≡ 8 }
+    requires empty { HasEmptyLogs 0 content.old }
     requires is_disk { IsDisk content.old }
+    ensures logs { OnOk result (HasLogs 8 (map F.holds files.old) content.new) }
     ensures others { content.new ≡ record content.old { logs = content.new.logs } }
     ensures is_disk { IsDisk content.new }
 {
@@ -125,8 +127,12 @@ fn read_log<F: DiskFile>(
     thread: InstNo,
 ) -> Result<(), Failed>
     requires thread { thread < 8 }
+    requires empty { log_at content.old thread ≡ [] }
     requires is_disk { IsDisk content.old }
+    ensures log { OnOk result (IfSome (F.holds file.old) (λ bytes. log_at content.new thread ≡ bytes)) }
+    ensures other_logs { (k : ℕ) → k ≢ thread → log_at content.new k ≡ log_at content.old k }
     ensures others { content.new ≡ record content.old { logs = content.new.logs } }
+    ensures holds { F.holds file.new ≡ F.holds file.old }
     ensures is_disk { IsDisk content.new }
 {
     let len = file.len()?;
@@ -148,7 +154,11 @@ fn read_piece<F: DiskFile>(
     requires thread { thread < 8 }
     requires is_disk { IsDisk content.old }
     ensures some { IfOk result (λ count. 0 < count) }
+    ensures count { IfOk result (λ count. IfSome (F.holds file.old) (λ bytes. count ≡ min 4096 (length bytes - at))) }
+    ensures piece { OnOk result (IfSome (F.holds file.old) (λ bytes. log_at content.new thread ≡ log_at content.old thread ++ take 4096 (drop at bytes))) }
+    ensures other_logs { (k : ℕ) → k ≢ thread → log_at content.new k ≡ log_at content.old k }
     ensures others { content.new ≡ record content.old { logs = content.new.logs } }
+    ensures holds { F.holds file.new ≡ F.holds file.old }
     ensures is_disk { IsDisk content.new }
 {
     let mut piece = [0; 4096];

@@ -2,7 +2,7 @@
 //! compared with what the disk is known to hold.
 
 ghost use Rattle.std.specs.Prelude.{◌≡◌, ◌≢◌, ◌<◌, ◌≤◌, ◌+◌, ◌^◌, ℕ, length, take, min, IfOk, IfErr, OnOk};
-ghost use Rattle.file_disk.specs.Files.{Written, Cut, log_calls, synced};
+ghost use Rattle.file_disk.specs.Files.{Written, Cut, of_log, synced};
 
 use crate::disk_file::DiskFile;
 use base_types::InstNo;
@@ -124,8 +124,8 @@ pub fn append_through<F: DiskFile>(
     requires thread { thread < length files.old }
     requires place { at + length bytes.now < 2 ^ 64 }
     ensures within { IfErr result (λ count. count ≤ length bytes.now) }
-    ensures file { OnOk result (log_calls F.calls files.new thread ≡ synced (Written at bytes.now) (log_calls F.calls files.old thread)) }
-    ensures others { (k : ℕ) → k ≢ thread → log_calls F.calls files.new k ≡ log_calls F.calls files.old k }
+    ensures file { OnOk result (of_log F.calls files.new thread ≡ synced (Written at bytes.now) (of_log F.calls files.old thread)) }
+    ensures others { (k : ℕ) → k ≢ thread → of_log F.calls files.new k ≡ of_log F.calls files.old k }
 {
     let file = &mut files[usize::from(thread.0)];
     match write_through(file, at, bytes) {
@@ -138,8 +138,8 @@ pub fn append_through<F: DiskFile>(
 /// says whether the file is cut then, as far as it can be asked.
 pub fn cut_log_through<F: DiskFile>(files: &mut [F], thread: InstNo, len: u64) -> Result<(), bool>
     requires { thread < length files.old }
-    ensures file { OnOk result (log_calls F.calls files.new thread ≡ synced (Cut len) (log_calls F.calls files.old thread)) }
-    ensures others { (k : ℕ) → k ≢ thread → log_calls F.calls files.new k ≡ log_calls F.calls files.old k }
+    ensures file { OnOk result (of_log F.calls files.new thread ≡ synced (Cut len) (of_log F.calls files.old thread)) }
+    ensures others { (k : ℕ) → k ≢ thread → of_log F.calls files.new k ≡ of_log F.calls files.old k }
 {
     let file = &mut files[usize::from(thread.0)];
     match cut_through(file, len) {

@@ -1,4 +1,4 @@
-use Rattle.std.proofs.Common.{arith, rules, sym, ◌≡◌, ◌≤◌, length}
+use Rattle.std.proofs.Common.{arith, rules, sym, ◌≤◌, length}
 use Rattle.part_image.proofs.CellLemmas.{AllStand, fit_where_all_stand, spelled_where_all_stand}
 use Rattle.part_image.proofs.Numbers.{IsBytes}
 use Rattle.control_image.specs.declared.entry.ControlEntry.{ControlEntry}
