@@ -2,7 +2,7 @@
 use Rattle.script_text.specs.declared.item.Item.{Item}
 use Rattle.std.proofs.Common.{ℕ, List, get_or, ◌∙◌, ◌++◌, ◌+◌, ◌≤◌, drop, length, rules, ap}
 use Rattle.std.proofs.lemmas.List.{drop_all}
-use Rattle.std.proofs.Common.{◌∷◌, [], append_assoc, append-nil, subst}
+use Rattle.std.proofs.Common.{◌∷◌, [], append_assoc, append-nil, arith, subst}
 use Rattle.plain_node.specs.Lined.{IsRight}
 use Rattle.plain_node.proofs.LineLemmas.{drop-item}
 use Rattle.plain_node.proofs.run.run_wave.Goals as goal
@@ -47,3 +47,15 @@ returns-clause-went g c parts before next r =
     let so_far = c.loop-line.invariant.went parts before next r in
     let all = rw (drop_all c.loop-line.line-index c.args.wave.now le, append-nil so_far.0) at so_far.1 in
     (subst (λ (done : List (ℕ × Item)). IsRight parts done c.loop-line.engine.node) all so_far.3, so_far.4)
+
+pub returns-in_err-answer-clause-lost : goal.returns-in_err-answer-clause-lost
+returns-in_err-answer-clause-lost g c = λ fault parts before next r.
+    let cut = drop-item c.args.wave.now c.loop-line.line-index c.line-item.result (search rules)
+    (c.line-item.is ∙ ap (λ (lines : List (ℕ × Item)). get_or lines c.loop-line.line-index c.line-item.result) c.as_slice-line-items.ensures) in
+    let so_far = c.loop-line.invariant.went parts before next r in
+    let after = rw cut at so_far.2 in
+    let calm = c.loop-line.invariant.calm in (
+      c.in_err-answer.ensures.lost (search (rules, fault)) parts so_far.0 after.0 so_far.3,
+      λ kept one. c.in_err-answer.ensures.tells (search (rules, fault)) parts so_far.0 so_far.3 (so_far.4 kept)
+          (record { one = omega (arith, one.one, calm.faults, calm.full); faults_below = one.faults_below; full_below = one.full_below }),
+    )
