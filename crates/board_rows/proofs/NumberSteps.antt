@@ -1,0 +1,168 @@
+-- The numbers of deeds and the wraps of slots are kept.
+use Rattle.std.proofs.Common.{◌≡◌, ℕ, suc, ◌<◌, ◌≤◌, Bool, true, false, cond, ◌&&◌, ◌||◌, ◌==◌, leb, max, List, [], ◌∷◌, ◌++◌, length, refl, sym, ap, ◌∙◌, subst, arith, inl, inr, ◌⊎◌}
+use Rattle.std.specs.List.{AllByRecursion, filter}
+use Rattle.std.proofs.lemmas.Bool.{eq-eqb, eqb-true, or_right}
+use Rattle.std.proofs.lemmas.Bool.Decides.{nat_tests}
+use Rattle.base_types.specs.declared.names.Xid.{Xid}
+use Rattle.journal.specs.Past.{same_xid}
+use Rattle.journal.specs.declared.deeds.Deed.{Deed}
+use Rattle.journal.proofs.XidLemmas.{both_true}
+use Rattle.board_rows.specs.Board.{Rec, Did, Back, Commits, Rolls, thread_of, scn_of, begun, Rising}
+use Rattle.board_rows.specs.Numbers.{did_in, IsNumbered, Numbered, IsWithin, wrap_in, xid_at, Numbers}
+use Rattle.board_rows.proofs.Shown.{all_of, clash}
+use Rattle.board_rows.proofs.Losses.{older-kept, Kept, kept-other}
+
+-- a transaction that has begun is within the wraps of its slot
+wrap-begun : (x : Xid) (recs : List Rec) → begun x recs ≡ true → x.wrap ≤ wrap_in x.seg x.slot recs
+wrap-begun x [] h = clash false h refl
+wrap-begun x (Did c y seq d ∷ recs) h = here (same_xid x y) refl h (wrap-begun x recs)
+  where
+    up : (t : Bool) (w : ℕ) → x.wrap ≤ w → x.wrap ≤ cond t (max y.wrap w) w
+    up true w le = omega (arith, le)
+    up false w le = le
+
+    here : (t : Bool) → same_xid x y ≡ t → cond t true (begun x recs) ≡ true → (begun x recs ≡ true → x.wrap ≤ wrap_in x.seg x.slot recs) → x.wrap ≤ cond (x.seg == y.seg && x.slot == y.slot) (max y.wrap (wrap_in x.seg x.slot recs)) (wrap_in x.seg x.slot recs)
+    here false e h ih = up (x.seg == y.seg && x.slot == y.slot) (wrap_in x.seg x.slot recs) (ih h)
+    here true e h ih =
+        let parts = both_true (x.seg == y.seg && x.slot == y.slot) (x.wrap == y.wrap) e in
+        let same : x.wrap ≡ y.wrap = eqb-true x.wrap y.wrap parts.1 in
+        rw parts.0 (omega (arith, same))
+wrap-begun x (Back i c y seq row ∷ recs) h = wrap-begun x recs h
+wrap-begun x (Commits c y ∷ recs) h = wrap-begun x recs h
+wrap-begun x (Rolls i c y ∷ recs) h = wrap-begun x recs h
+
+module _ {recs : List Rec} {told since : ℕ → List (Xid × Deed)} {has : Xid → Bool} (h : Numbers recs told since has) where
+  pub numbers-changes : (c : ℕ) (x : Xid) (seq : ℕ) (deed : Deed) → seq ≡ suc (length (did_in x.seg recs)) → (begun x recs ≡ true) ⊎ (x.wrap ≡ suc (wrap_in x.seg x.slot recs))
+      → Numbers (Did c x seq deed ∷ recs) (λ i. cond (i == x.seg) ((x, deed) ∷ told i) (told i)) (λ i. cond (i == x.seg) ((x, deed) ∷ since i) (since i)) (λ y. same_xid y x || has y)
+  numbers-changes c x seq deed next mine = record {
+    numbered = (next, h.numbered);
+    newest = λ i. newest i (i == x.seg);
+    within = λ i. within i (i == x.seg);
+    wraps = λ seg slot w low up. wraps seg slot w low (seg == x.seg && slot == x.slot) refl up;
+  }
+    where
+      newest : (i : ℕ) (t : Bool) → (rest : List (Xid × Deed)) × (cond t ((x, deed) ∷ did_in i recs) (did_in i recs) ≡ cond t ((x, deed) ∷ since i) (since i) ++ rest)
+      newest i true = let n = h.newest i in (n.0, ap (λ ds. (x, deed) ∷ ds) n.1)
+      newest i false = h.newest i
+
+      within : (i : ℕ) (t : Bool) → IsWithin (cond t ((x, deed) ∷ did_in i recs) (did_in i recs)) (cond t ((x, deed) ∷ told i) (told i))
+      within i true = inl (refl, h.within i)
+      within i false = h.within i
+
+      old : (seg slot w : ℕ) → 0 < w → w ≤ wrap_in seg slot recs → (same_xid (xid_at seg slot w) x || has (xid_at seg slot w)) ≡ true
+      old seg slot w low up = or_right (same_xid (xid_at seg slot w) x) (has (xid_at seg slot w)) (h.wraps seg slot w low up)
+
+      wraps : (seg slot w : ℕ) → 0 < w → (t : Bool) → (seg == x.seg && slot == x.slot) ≡ t → w ≤ cond t (max x.wrap (wrap_in seg slot recs)) (wrap_in seg slot recs) → (same_xid (xid_at seg slot w) x || has (xid_at seg slot w)) ≡ true
+      wraps seg slot w low false e up = old seg slot w low up
+      wraps seg slot w low true e up = here (leb w (wrap_in seg slot recs)) refl
+        where
+          at_x : wrap_in seg slot recs ≡ wrap_in x.seg x.slot recs
+          at_x = let parts = both_true (seg == x.seg) (slot == x.slot) e in rw (eqb-true seg x.seg parts.0, eqb-true slot x.slot parts.1) refl
+
+          here : (l : Bool) → leb w (wrap_in seg slot recs) ≡ l → (same_xid (xid_at seg slot w) x || has (xid_at seg slot w)) ≡ true
+          here true f = old seg slot w low (grind (arith, nat_tests, f))
+          here false f =
+              let above : wrap_in seg slot recs < w = grind (arith, nat_tests, f) in
+              elim mine [
+                | inl b ↦ (let le = wrap-begun x recs b in absurd (omega (arith, le, above, up, at_x)))
+                | inr s ↦ (let same : w ≡ x.wrap = omega (arith, s, above, up, at_x) in let test : (w == x.wrap) ≡ true = eq-eqb w x.wrap same in rw (e, test) refl)
+              ]
+
+-- all deeds of a segment are kept
+did-kept : (i kept j : ℕ) (recs : List Rec) → AllByRecursion (λ o. thread_of o ≡ j → Kept i kept o ≡ true) recs → did_in j (filter (Kept i kept) recs) ≡ did_in j recs
+did-kept i kept j [] h = refl
+did-kept i kept j (r ∷ recs) h = here r (Kept i kept r) refl h.0 (did-kept i kept j recs h.1)
+  where
+    here : (r : Rec) (t : Bool) → Kept i kept r ≡ t → (thread_of r ≡ j → Kept i kept r ≡ true) → did_in j (filter (Kept i kept) recs) ≡ did_in j recs → did_in j (cond t (r ∷ filter (Kept i kept) recs) (filter (Kept i kept) recs)) ≡ did_in j (r ∷ recs)
+    here (Did c x seq d) true e f ih = ap (λ ds. cond (j == x.seg) ((x, d) ∷ ds) ds) ih
+    here (Did c x seq d) false e f ih = ih ∙ sym (other (j == x.seg) refl)
+      where
+        other : (t : Bool) → (j == x.seg) ≡ t → cond t ((x, d) ∷ did_in j recs) (did_in j recs) ≡ did_in j recs
+        other false g = refl
+        other true g = clash (Kept i kept (Did c x seq d)) (f (sym (eqb-true j x.seg g))) e
+    here (Back k c x seq row) true e f ih = ih
+    here (Back k c x seq row) false e f ih = ih
+    here (Commits c x) true e f ih = ih
+    here (Commits c x) false e f ih = ih
+    here (Rolls k c x) true e f ih = ih
+    here (Rolls k c x) false e f ih = ih
+
+module _ (i kept : ℕ) where
+  numbered-kept : (recs : List Rec) → Rising recs → Numbered recs → Numbered (filter (Kept i kept) recs)
+  numbered-kept [] rising h = tt
+  numbered-kept (r ∷ recs) rising h = here (Kept i kept r) refl (numbered-kept recs rising.1 h.1)
+    where
+      same : (r : Rec) → Kept i kept r ≡ true → AllByRecursion (λ o. thread_of o ≡ thread_of r → scn_of o < scn_of r) recs → IsNumbered r recs → IsNumbered r (filter (Kept i kept) recs)
+      same (Did c x seq d) k above n = n ∙ ap (λ (ds : List (Xid × Deed)). suc (length ds)) (sym (did-kept i kept x.seg recs (older-kept i kept (Did c x seq d) recs k above)))
+      same (Back j c x seq row) k above n = tt
+      same (Commits c x) k above n = tt
+      same (Rolls j c x) k above n = tt
+
+      here : (t : Bool) → Kept i kept r ≡ t → Numbered (filter (Kept i kept) recs) → Numbered (cond t (r ∷ filter (Kept i kept) recs) (filter (Kept i kept) recs))
+      here true e ih = (same r e rising.0 h.0, ih)
+      here false e ih = ih
+
+  within-tail : (x : Xid × Deed) (xs ys : List (Xid × Deed)) → IsWithin (x ∷ xs) ys → IsWithin xs ys
+  within-tail x xs [] h = absurd h
+  within-tail x [] (y ∷ ys) h = tt
+  within-tail x (z ∷ xs) (y ∷ ys) (inl h) = inr h.1
+  within-tail x (z ∷ xs) (y ∷ ys) (inr h) = inr (within-tail x (z ∷ xs) ys h)
+
+  within-kept : (j : ℕ) (recs : List Rec) (ys : List (Xid × Deed)) → Rising recs → IsWithin (did_in j recs) ys → IsWithin (did_in j (filter (Kept i kept) recs)) ys
+  within-kept j [] ys rising h = h
+  within-kept j (r ∷ recs) ys rising h = here r (Kept i kept r) refl rising.0 h (λ g. within-kept j recs ys rising.1 g)
+    where
+      here : (r : Rec) (t : Bool) → Kept i kept r ≡ t → AllByRecursion (λ o. thread_of o ≡ thread_of r → scn_of o < scn_of r) recs → IsWithin (did_in j (r ∷ recs)) ys → (IsWithin (did_in j recs) ys → IsWithin (did_in j (filter (Kept i kept) recs)) ys)
+          → IsWithin (did_in j (cond t (r ∷ filter (Kept i kept) recs) (filter (Kept i kept) recs))) ys
+      here (Did c x seq d) t e above h ih = go (j == x.seg) refl t e h
+        where
+          go : (u : Bool) → (j == x.seg) ≡ u → (t : Bool) → Kept i kept (Did c x seq d) ≡ t → IsWithin (cond u ((x, d) ∷ did_in j recs) (did_in j recs)) ys → IsWithin (did_in j (cond t (Did c x seq d ∷ filter (Kept i kept) recs) (filter (Kept i kept) recs))) ys
+          go true f false e h = ih (within-tail (x, d) (did_in j recs) ys h)
+          go false f false e h = ih h
+          go false f true e h = rw f (ih h)
+          go true f true e h =
+              let at_j : j ≡ x.seg = eqb-true j x.seg f in
+              let same : did_in j (filter (Kept i kept) recs) ≡ did_in j recs = rw at_j (did-kept i kept x.seg recs (older-kept i kept (Did c x seq d) recs e above)) in
+              rw f (subst (λ (ds : List (Xid × Deed)). IsWithin ((x, d) ∷ ds) ys) (sym same) h)
+      here (Back k c x seq row) true e above h ih = ih h
+      here (Back k c x seq row) false e above h ih = ih h
+      here (Commits c x) true e above h ih = ih h
+      here (Commits c x) false e above h ih = ih h
+      here (Rolls k c x) true e above h ih = ih h
+      here (Rolls k c x) false e above h ih = ih h
+
+  wrap-kept : (seg slot : ℕ) (recs : List Rec) → wrap_in seg slot (filter (Kept i kept) recs) ≤ wrap_in seg slot recs
+  wrap-kept seg slot [] = omega arith
+  wrap-kept seg slot (r ∷ recs) = here r (Kept i kept r) (wrap-kept seg slot recs)
+    where
+      both : (u : Bool) (w a b : ℕ) → a ≤ b → cond u (max w a) a ≤ cond u (max w b) b
+      both true w a b le = omega (arith, le)
+      both false w a b le = le
+
+      up : (u : Bool) (w a b : ℕ) → a ≤ b → a ≤ cond u (max w b) b
+      up true w a b le = omega (arith, le)
+      up false w a b le = le
+
+      here : (r : Rec) (t : Bool) → wrap_in seg slot (filter (Kept i kept) recs) ≤ wrap_in seg slot recs → wrap_in seg slot (cond t (r ∷ filter (Kept i kept) recs) (filter (Kept i kept) recs)) ≤ wrap_in seg slot (r ∷ recs)
+      here (Did c x seq d) true ih = both (seg == x.seg && slot == x.slot) x.wrap (wrap_in seg slot (filter (Kept i kept) recs)) (wrap_in seg slot recs) ih
+      here (Did c x seq d) false ih = up (seg == x.seg && slot == x.slot) x.wrap (wrap_in seg slot (filter (Kept i kept) recs)) (wrap_in seg slot recs) ih
+      here (Back j c x seq row) true ih = ih
+      here (Back j c x seq row) false ih = ih
+      here (Commits c x) true ih = ih
+      here (Commits c x) false ih = ih
+      here (Rolls j c x) true ih = ih
+      here (Rolls j c x) false ih = ih
+
+  pub numbers-loses : {recs : List Rec} {told since : ℕ → List (Xid × Deed)} {has : Xid → Bool} → Numbers recs told since has → Rising recs → Numbers (filter (Kept i kept) recs) told (λ j. cond (j == i) [] (since j)) has
+  numbers-loses {recs} {told} {since} h rising = record {
+    numbered = numbered-kept recs rising h.numbered;
+    newest = λ j. newest j (j == i) refl;
+    within = λ j. within-kept j recs (told j) rising (h.within j);
+    wraps = λ seg slot w low up. h.wraps seg slot w low (let le = wrap-kept seg slot recs in omega arith);
+  }
+    where
+      newest : (j : ℕ) (t : Bool) → (j == i) ≡ t → (rest : List (Xid × Deed)) × (did_in j (filter (Kept i kept) recs) ≡ cond t [] (since j) ++ rest)
+      newest j true e = (did_in j (filter (Kept i kept) recs), refl)
+      newest j false e =
+          let n = h.newest j in
+          (n.0, did-kept i kept j recs (all_of (λ o. thread_of o ≡ j → Kept i kept o ≡ true) recs (λ o f. kept-other i kept o (rw f e))) ∙ n.1)
