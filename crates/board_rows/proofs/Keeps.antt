@@ -22,9 +22,9 @@ use Rattle.journal.specs.Good.{Range}
 use Rattle.journal.proofs.XidLemmas.{same_xid-refl, same_xid-true}
 use Rattle.board_rows.specs.Board.{EachSuffix, Rec, Did, Back, Commits, Rolls, Mod, without, thread_of, scn_of, xid_of, stands, of_xid, Stage, Fresh, Active, Over, stage, begun, on_disk, Rising}
 use Rattle.board_rows.specs.Rows.{FreeUnder, IsFree, on, deeds_in, committed_at, commit_of, logged}
-use Rattle.board_rows.specs.Numbers.{wrap_in}
+use Rattle.board_rows.specs.Numbers.{wrap_in, has_end}
 use Rattle.board_rows.specs.Events
-use Rattle.board_rows.specs.Events.{Board, Scan, Event, IsLate, IsNote, MayOpen, MayStart, MayRead, MayChange, MayTakeBack, MayRoll, MayEnd, MaySettle, MayAnswer, MayAck, MayJoin, Finds, put, after, entry_of, told, unread, anew, read_on, recorded, is_own, value_there}
+use Rattle.board_rows.specs.Events.{Board, Scan, Event, IsLate, IsNote, MayOpen, MayStart, MayRead, MayChange, MayTakeBack, MayRoll, MayEnd, MaySettle, MayAnswer, MayAck, MayUp, MayJoin, Finds, put, after, entry_of, told, unread, anew, read_on, recorded, is_own, value_there}
 use Rattle.board_rows.specs.Sound.{Sound, ScanIsSeen, Answers, MayGoOn, RowsAreLate, IsMarked, RecIsIn, Sessions, Follows}
 use Rattle.board_rows.proofs.Shown.{all_map, all_both, all_append, clash}
 use Rattle.board_rows.proofs.Table.{OneMore}
@@ -34,7 +34,8 @@ use Rattle.board_rows.proofs.RowSteps.{IsNewest, newest-first, rows-changes, row
 use Rattle.board_rows.proofs.TxnSteps.{txns-changes, txns-back, txns-marks, txns-rolls, goes-new, active-new, begun-used, active-begun}
 use Rattle.board_rows.proofs.TxnSettles.{IsPlaced, all-placed, txns-settles, settled-quiet, settled-commit, apart-quiet, apart-commit}
 use Rattle.board_rows.proofs.Logged.{logged-quiet, logged-commit, stands-over}
-use Rattle.board_rows.proofs.NumberSteps.{numbers-changes}
+use Rattle.board_rows.proofs.NumberSteps.{numbers-changes, ended-more}
+use Rattle.board_rows.proofs.SegmentSteps.{segments-changes, segments-back, segments-marks, segments-rolls, segments-settles, segments-ups}
 use Rattle.board_rows.proofs.Owns.{under-up, under-back, under-committed-more, under-fresh-all}
 use Rattle.board_rows.proofs.LateSteps.{late-reads, late-raises, late-changes, late-back, late-marks, late-rolls, late-settles}
 use Rattle.board_rows.proofs.Look.{changes-free, own-is, live-new, live-low, look-sees, look-late, change-sees, OfRec, stands-from}
@@ -58,7 +59,7 @@ module _ (asked : ℕ → Option Range) (insts : ℕ) (b : Board) (sound : Sound
     clocks = sound.clocks;
     txns = sound.txns;
     sessions = sessions-opens sound.sessions z i may.new;
-    lives = sound.lives;
+    segments = sound.segments;
     rows = sound.rows;
     owns = sound.owns;
     log_history = sound.log_history;
@@ -74,7 +75,7 @@ module _ (asked : ℕ → Option Range) (insts : ℕ) (b : Board) (sound : Sound
     clocks = clocks-learns sound.clocks i e may.low;
     txns = sound.txns;
     sessions = sound.sessions;
-    lives = sound.lives;
+    segments = sound.segments;
     rows = sound.rows;
     owns = λ y x f o. suffix_map (λ older. FreeUnder told_at (started_up_to y b.past) x (stands older)) (λ older. FreeUnder told_at (cond (y == z) (max (max (b.known i) e) (started_up_to y b.past)) (started_up_to y b.past)) x (stands older)) b.recs (λ older h. under-up told_at (started_up_to y b.past) (cond (y == z) (max (max (b.known i) e) (started_up_to y b.past)) (started_up_to y b.past)) x (stands older) (higher (y == z) (max (b.known i) e) (started_up_to y b.past)) h) (sound.owns y x f o);
     log_history = sound.log_history;
@@ -95,7 +96,7 @@ module _ (asked : ℕ → Option Range) (insts : ℕ) (b : Board) (sound : Sound
     clocks = clocks-learns sound.clocks i e may;
     txns = sound.txns;
     sessions = sound.sessions;
-    lives = sound.lives;
+    segments = sound.segments;
     rows = sound.rows;
     owns = sound.owns;
     log_history = sound.log_history;
@@ -111,7 +112,7 @@ module _ (asked : ℕ → Option Range) (insts : ℕ) (b : Board) (sound : Sound
     clocks = clocks-raises sound.clocks i c;
     txns = sound.txns;
     sessions = sound.sessions;
-    lives = sound.lives;
+    segments = sound.segments;
     rows = sound.rows;
     owns = sound.owns;
     log_history = sound.log_history;
@@ -130,7 +131,7 @@ module _ (asked : ℕ → Option Range) (insts : ℕ) (b : Board) (sound : Sound
     clocks = sound.clocks;
     txns = sound.txns;
     sessions = sound.sessions;
-    lives = sound.lives;
+    segments = sound.segments;
     rows = sound.rows;
     owns = sound.owns;
     log_history = sound.log_history;
@@ -163,7 +164,7 @@ module _ (asked : ℕ → Option Range) (insts : ℕ) (b : Board) (sound : Sound
     clocks = sound.clocks;
     txns = sound.txns;
     sessions = sound.sessions;
-    lives = sound.lives;
+    segments = sound.segments;
     rows = sound.rows;
     owns = sound.owns;
     log_history = sound.log_history;
@@ -179,7 +180,7 @@ module _ (asked : ℕ → Option Range) (insts : ℕ) (b : Board) (sound : Sound
     clocks = sound.clocks;
     txns = sound.txns;
     sessions = sound.sessions;
-    lives = sound.lives;
+    segments = sound.segments;
     rows = sound.rows;
     owns = sound.owns;
     log_history = sound.log_history;
@@ -199,12 +200,12 @@ module _ (asked : ℕ → Option Range) (insts : ℕ) (b : Board) (sound : Sound
   drawn-at newer r there place = (all_append (λ r. scn_of r ≤ b.scn (thread_of r)) newer (r ∷ there) (subst (AllByRecursion (λ r. scn_of r ≤ b.scn (thread_of r))) place sound.clocks.drawn)).1.0
 
   pub keeps-notes : (e : Entry) → IsNote e → Sound asked insts (after b (Events.notes e))
-  keeps-notes (Plain n) h = record { clocks = sound.clocks; txns = sound.txns; sessions = sound.sessions; lives = sound.lives; rows = sound.rows; owns = sound.owns; log_history = sound.log_history; numbers = sound.numbers; late = sound.late; starts = sound.starts; answers = push-answers b.scan (Plain n) sound.answers tt tt tt sound.answers.scans; proper = push-proper (Plain n) sound.proper tt tt tt tt }
-  keeps-notes (Refused n cause) h = record { clocks = sound.clocks; txns = sound.txns; sessions = sound.sessions; lives = sound.lives; rows = sound.rows; owns = sound.owns; log_history = sound.log_history; numbers = sound.numbers; late = sound.late; starts = sound.starts; answers = push-answers b.scan (Refused n cause) sound.answers tt tt tt sound.answers.scans; proper = push-proper (Refused n cause) sound.proper tt tt tt tt }
-  keeps-notes (Recovered is) h = record { clocks = sound.clocks; txns = sound.txns; sessions = sound.sessions; lives = sound.lives; rows = sound.rows; owns = sound.owns; log_history = sound.log_history; numbers = sound.numbers; late = sound.late; starts = sound.starts; answers = push-answers b.scan (Recovered is) sound.answers tt tt tt sound.answers.scans; proper = push-proper (Recovered is) sound.proper tt tt tt tt }
-  keeps-notes (Moved line) h = record { clocks = sound.clocks; txns = sound.txns; sessions = sound.sessions; lives = sound.lives; rows = sound.rows; owns = sound.owns; log_history = sound.log_history; numbers = sound.numbers; late = sound.late; starts = sound.starts; answers = push-answers b.scan (Moved line) sound.answers tt tt tt sound.answers.scans; proper = push-proper (Moved line) sound.proper tt tt tt tt }
-  keeps-notes (Checkpointed line) h = record { clocks = sound.clocks; txns = sound.txns; sessions = sound.sessions; lives = sound.lives; rows = sound.rows; owns = sound.owns; log_history = sound.log_history; numbers = sound.numbers; late = sound.late; starts = sound.starts; answers = push-answers b.scan (Checkpointed line) sound.answers tt tt tt sound.answers.scans; proper = push-proper (Checkpointed line) sound.proper tt tt tt tt }
-  keeps-notes (NotDone line) h = record { clocks = sound.clocks; txns = sound.txns; sessions = sound.sessions; lives = sound.lives; rows = sound.rows; owns = sound.owns; log_history = sound.log_history; numbers = sound.numbers; late = sound.late; starts = sound.starts; answers = push-answers b.scan (NotDone line) sound.answers tt tt tt sound.answers.scans; proper = push-proper (NotDone line) sound.proper tt tt tt tt }
+  keeps-notes (Plain n) h = record { clocks = sound.clocks; txns = sound.txns; sessions = sound.sessions; segments = sound.segments; rows = sound.rows; owns = sound.owns; log_history = sound.log_history; numbers = sound.numbers; late = sound.late; starts = sound.starts; answers = push-answers b.scan (Plain n) sound.answers tt tt tt sound.answers.scans; proper = push-proper (Plain n) sound.proper tt tt tt tt }
+  keeps-notes (Refused n cause) h = record { clocks = sound.clocks; txns = sound.txns; sessions = sound.sessions; segments = sound.segments; rows = sound.rows; owns = sound.owns; log_history = sound.log_history; numbers = sound.numbers; late = sound.late; starts = sound.starts; answers = push-answers b.scan (Refused n cause) sound.answers tt tt tt sound.answers.scans; proper = push-proper (Refused n cause) sound.proper tt tt tt tt }
+  keeps-notes (Recovered is) h = record { clocks = sound.clocks; txns = sound.txns; sessions = sound.sessions; segments = sound.segments; rows = sound.rows; owns = sound.owns; log_history = sound.log_history; numbers = sound.numbers; late = sound.late; starts = sound.starts; answers = push-answers b.scan (Recovered is) sound.answers tt tt tt sound.answers.scans; proper = push-proper (Recovered is) sound.proper tt tt tt tt }
+  keeps-notes (Moved line) h = record { clocks = sound.clocks; txns = sound.txns; sessions = sound.sessions; segments = sound.segments; rows = sound.rows; owns = sound.owns; log_history = sound.log_history; numbers = sound.numbers; late = sound.late; starts = sound.starts; answers = push-answers b.scan (Moved line) sound.answers tt tt tt sound.answers.scans; proper = push-proper (Moved line) sound.proper tt tt tt tt }
+  keeps-notes (Checkpointed line) h = record { clocks = sound.clocks; txns = sound.txns; sessions = sound.sessions; segments = sound.segments; rows = sound.rows; owns = sound.owns; log_history = sound.log_history; numbers = sound.numbers; late = sound.late; starts = sound.starts; answers = push-answers b.scan (Checkpointed line) sound.answers tt tt tt sound.answers.scans; proper = push-proper (Checkpointed line) sound.proper tt tt tt tt }
+  keeps-notes (NotDone line) h = record { clocks = sound.clocks; txns = sound.txns; sessions = sound.sessions; segments = sound.segments; rows = sound.rows; owns = sound.owns; log_history = sound.log_history; numbers = sound.numbers; late = sound.late; starts = sound.starts; answers = push-answers b.scan (NotDone line) sound.answers tt tt tt sound.answers.scans; proper = push-proper (NotDone line) sound.proper tt tt tt tt }
   keeps-notes _ h = absurd h
 
   -- what sessions read, where a record of x is made
@@ -215,10 +216,6 @@ module _ (asked : ℕ → Option Range) (insts : ℕ) (b : Board) (sound : Sound
       same : is_own (last_of z b.past) x ≡ false → own_changes z now ≡ own_changes z b.past
       same off = own-other b.past now z (last z) (λ y e. other y (let f : is_own (Some y) x ≡ false = rw e at off in f))
 
-  lives-less : (y : Xid) (t : Bool) → cond t false (is_open y b.past) ≡ true → is_up y.seg b.past ≡ true
-  lives-less y true e = clash false e refl
-  lives-less y false e = sound.lives y e
-
   rise : (i : ℕ) (j : ℕ) → b.scn j ≤ put b.scn i (b.scn i + 1) j
   rise i = put-rises b.scn i (b.scn i + 1) (omega arith)
 
@@ -227,11 +224,11 @@ module _ (asked : ℕ → Option Range) (insts : ℕ) (b : Board) (sound : Sound
     clocks = clocks-records sound.clocks i (Back i (b.scn i + 1) x seq row) refl refl;
     txns = txns-back sound.txns i (b.scn i + 1) x seq row left may.m may.rest may.may.0 may.may.1 may.newest first.1 may.stays;
     sessions = sound.sessions;
-    lives = sound.lives;
+    segments = segments-back sound.segments i (b.scn i + 1) x seq row may.may.0 may.may.1;
     rows = rows-back sound.rows i (b.scn i + 1) x seq row new first.0;
     owns = λ z y f o. (under-back told_at (started_up_to z b.past) y x seq row (stands b.recs) (suffix_here (λ older. FreeUnder told_at (started_up_to z b.past) y (stands older)) b.recs (sound.owns z y f o)), sound.owns z y f o);
     log_history = sound.log_history;
-    numbers = record { numbered = (tt, sound.numbers.numbered); newest = sound.numbers.newest; within = sound.numbers.within; wraps = sound.numbers.wraps };
+    numbers = record { numbered = (tt, sound.numbers.numbered); newest = sound.numbers.newest; within = sound.numbers.within; wraps = sound.numbers.wraps; ended = sound.numbers.ended };
     late = late-raises (Back i (b.scn i + 1) x seq row ∷ b.recs) b.scn b.floor (λ x. is_open x b.past) (λ x. committed_at x b.past) (put b.scn i (b.scn i + 1)) (rise i)
         (late-back b.recs b.scn b.floor (λ x. is_open x b.past) (λ x. committed_at x b.past) i (b.scn i + 1) x seq row sound.late);
     starts = sound.starts;
@@ -250,11 +247,11 @@ module _ (asked : ℕ → Option Range) (insts : ℕ) (b : Board) (sound : Sound
     clocks = clocks-records sound.clocks i (Commits c x) refl refl;
     txns = txns-marks sound.txns c x is (let le = sound.clocks.lasts i in omega arith) (all_map (λ r. is_open (xid_of r) b.past ≡ true → scn_of r ≤ b.scn (xid_of r).seg) (λ r. same_xid (xid_of r) x ≡ true → scn_of r < c) b.recs (λ r low e. below r low (same_xid-true (xid_of r) x e)) (live-low asked insts b sound));
     sessions = sound.sessions;
-    lives = λ y. lives-less y (same_xid y x);
+    segments = segments-marks sound.segments c x;
     rows = rows-ends sound.rows (Commits c x) refl;
     owns = λ z y f o. (let h = sound.owns z y f (was_open y (same_xid y x) o) in (suffix_here (λ older. FreeUnder told_at (started_up_to z b.past) y (stands older)) b.recs h, h));
     log_history = sound.log_history ∙ sym unlogged;
-    numbers = record { numbered = (tt, sound.numbers.numbered); newest = sound.numbers.newest; within = sound.numbers.within; wraps = sound.numbers.wraps };
+    numbers = record { numbered = (tt, sound.numbers.numbered); newest = sound.numbers.newest; within = sound.numbers.within; wraps = sound.numbers.wraps; ended = λ y. ended-more b.recs y x (same_xid y x) refl (has_end y b.past) (active-begun x b.recs ((sound.txns.each x).active is)) (sound.numbers.ended y) };
     late = late-raises (Commits c x ∷ b.recs) b.scn b.floor (λ y. cond (same_xid y x) false (is_open y b.past)) (λ x. committed_at x b.past) (put b.scn i c) (rise i)
         (late-marks b.recs b.scn b.floor (λ x. is_open x b.past) (λ x. committed_at x b.past) c x is ((sound.txns.each x).active is) (omega arith) sound.late);
     starts = sound.starts;
@@ -279,11 +276,11 @@ module _ (asked : ℕ → Option Range) (insts : ℕ) (b : Board) (sound : Sound
     clocks = clocks-records sound.clocks i (Rolls i (b.scn i + 1) x) refl refl;
     txns = txns-rolls sound.txns i (b.scn i + 1) x may.may.0 may.none;
     sessions = sound.sessions;
-    lives = λ y. lives-less y (same_xid y x);
+    segments = segments-rolls sound.segments i (b.scn i + 1) x may.may.0 may.may.1;
     rows = rows-ends sound.rows (Rolls i (b.scn i + 1) x) refl;
     owns = λ z y f o. (let h = sound.owns z y f (was_open y (same_xid y x) o) in (suffix_here (λ older. FreeUnder told_at (started_up_to z b.past) y (stands older)) b.recs h, h));
     log_history = sound.log_history;
-    numbers = record { numbered = (tt, sound.numbers.numbered); newest = sound.numbers.newest; within = sound.numbers.within; wraps = sound.numbers.wraps };
+    numbers = record { numbered = (tt, sound.numbers.numbered); newest = sound.numbers.newest; within = sound.numbers.within; wraps = sound.numbers.wraps; ended = λ y. ended-more b.recs y x (same_xid y x) refl (has_end y b.past) (active-begun x b.recs may.may.0) (sound.numbers.ended y) };
     late = late-raises (Rolls i (b.scn i + 1) x ∷ b.recs) b.scn b.floor (λ y. cond (same_xid y x) false (is_open y b.past)) (λ x. committed_at x b.past) (put b.scn i (b.scn i + 1)) (rise i)
         (late-rolls b.recs b.scn b.floor (λ x. is_open x b.past) (λ x. committed_at x b.past) i (b.scn i + 1) x sound.late);
     starts = sound.starts;
@@ -297,7 +294,7 @@ module _ (asked : ℕ → Option Range) (insts : ℕ) (b : Board) (sound : Sound
     clocks = clocks-settles sound.clocks (thread_of r) (scn_of r) (drawn-at newer r there may.place);
     txns = txns-settles sound.txns newer r there (λ x. committed_at x b.past) (λ c i. stood (is_commit_by c i) b.past) may.place may.new may.first sound.clocks.rising (settled-quiet sound.txns r never) (apart-quiet sound.txns (thread_of r) (scn_of r) may.new);
     sessions = sound.sessions;
-    lives = sound.lives;
+    segments = segments-settles sound.segments (thread_of r) (scn_of r) may.new;
     rows = sound.rows;
     owns = sound.owns;
     log_history = sound.log_history ∙ sym (logged-quiet b.durable r may.new b.recs (subst (AllByRecursion (IsPlaced (b.durable (thread_of r)) r)) (sym may.place) (all-placed (b.durable (thread_of r)) newer r there (subst Rising may.place sound.clocks.rising) may.first)) never);
@@ -313,7 +310,7 @@ module _ (asked : ℕ → Option Range) (insts : ℕ) (b : Board) (sound : Sound
     clocks = clocks-settles sound.clocks x.seg c (drawn-at newer (Commits c x) there may.place);
     txns = txns-settles sound.txns newer (Commits c x) there now (λ d j. (d == c && j == x.seg) || stood (is_commit_by d j) b.past) may.place may.new may.first sound.clocks.rising (settled-commit sound.txns c x) (apart-commit sound.txns c x may.new);
     sessions = sound.sessions;
-    lives = sound.lives;
+    segments = segments-settles sound.segments x.seg c may.new;
     rows = rows-settles sound.rows x a now refl more marks.same below;
     owns = λ z y f o. suffix_map (λ older. FreeUnder told_at (started_up_to z b.past) y (stands older)) (λ older. FreeUnder now (started_up_to z b.past) y (stands older)) b.recs (λ older h. under-committed-more x c told_at now (started_up_to z b.past) y (stands older) more h) (sound.owns z y f o);
     log_history = told_history;
@@ -452,10 +449,6 @@ module _ (asked : ℕ → Option Range) (insts : ℕ) (b : Board) (sound : Sound
                   | inr g ↦ absurd (begun-used x b.recs (sound.sessions.used y x (e ∙ ap Some is)) g)
                 ]
 
-    change-lives : (y : Xid) (t : Bool) → same_xid y x ≡ t → cond t true (is_open y b.past) ≡ true → is_up y.seg b.past ≡ true
-    change-lives y false e f = sound.lives y f
-    change-lives y true e f = rw (same_xid-true y x e) may.up
-
     unbegun : stage x b.recs ≡ Fresh → begun x b.recs ≡ false
     unbegun e = here (begun x b.recs) refl
       where
@@ -515,7 +508,7 @@ module _ (asked : ℕ → Option Range) (insts : ℕ) (b : Board) (sound : Sound
     clocks = clocks-records sound.clocks x.seg (Did (b.scn x.seg + 1) x seq (Changes change)) refl refl;
     txns = txns-changes sound.txns (b.scn x.seg + 1) x seq (Changes change) (goes n z s x seq (Changes change) may);
     sessions = change-sessions n z s x seq (Changes change) may;
-    lives = λ y. change-lives n z s x seq (Changes change) may y (same_xid y x) refl;
+    segments = segments-changes sound.segments (b.scn x.seg + 1) x seq (Changes change) may.up;
     rows = rows-changes sound.rows s (b.scn x.seg + 1) x seq (Changes change) (let le = may.low in omega arith) (change-new n z s x seq (Changes change) may) (changes-free asked insts b sound n z s x seq (Changes change) may) may.found;
     owns = λ y w f o. change-owns n z s x seq (Changes change) may y w f o;
     log_history = sound.log_history;
@@ -535,7 +528,7 @@ module _ (asked : ℕ → Option Range) (insts : ℕ) (b : Board) (sound : Sound
     clocks = clocks-records sound.clocks x.seg (Did (b.scn x.seg + 1) x seq (Locks row)) refl refl;
     txns = txns-changes sound.txns (b.scn x.seg + 1) x seq (Locks row) (goes n z s x seq (Locks row) may);
     sessions = change-sessions n z s x seq (Locks row) may;
-    lives = λ y. change-lives n z s x seq (Locks row) may y (same_xid y x) refl;
+    segments = segments-changes sound.segments (b.scn x.seg + 1) x seq (Locks row) may.up;
     rows = rows-changes sound.rows s (b.scn x.seg + 1) x seq (Locks row) (let le = may.low in omega arith) (change-new n z s x seq (Locks row) may) (changes-free asked insts b sound n z s x seq (Locks row) may) may.found;
     owns = λ y w f o. change-owns n z s x seq (Locks row) may y w f o;
     log_history = sound.log_history;
@@ -560,7 +553,7 @@ module _ (asked : ℕ → Option Range) (insts : ℕ) (b : Board) (sound : Sound
     };
     txns = sound.txns;
     sessions = sound.sessions;
-    lives = sound.lives;
+    segments = sound.segments;
     rows = sound.rows;
     owns = sound.owns;
     log_history = sound.log_history;
@@ -581,7 +574,7 @@ module _ (asked : ℕ → Option Range) (insts : ℕ) (b : Board) (sound : Sound
       drawn r le low false e = le
 
       closed : (y : Xid) → (i == y.seg) ≡ true → is_open y b.past ≡ true → ⊥
-      closed y e f = let down : is_up y.seg b.past ≡ false = rw (sym (eqb-true i y.seg e)) may.down in clash (is_up y.seg b.past) (sound.lives y f) down
+      closed y e f = let down : is_up y.seg b.past ≡ false = rw (sym (eqb-true i y.seg e)) may.down in clash (is_up y.seg b.past) (sound.segments.lives y f) down
 
       dead : (s : ℕ) (live : Bool) (st : Stage) (old now : ℕ) → (live ≡ true → ⊥) → IsLate s live st old → IsLate s live st now
       dead s live Fresh old now never h = λ e. absurd (never e)
@@ -593,22 +586,18 @@ module _ (asked : ℕ → Option Range) (insts : ℕ) (b : Board) (sound : Sound
       late s y h false e = h
       late s y h true e = dead s (is_open y b.past) (stage y b.recs) (b.scn y.seg) c (closed y e) h
 
-  pub keeps-ups : (line i : ℕ) → acked_up_to b.past ≤ b.known i → Sound asked insts (after b (Events.ups line i))
+  pub keeps-ups : (line i : ℕ) → MayUp b i → Sound asked insts (after b (Events.ups line i))
   keeps-ups line i may = record {
     clocks = sound.clocks;
     txns = sound.txns;
     sessions = sound.sessions;
-    lives = λ y e. lives y e (y.seg == i);
+    segments = segments-ups sound.segments i may.ended may.safe;
     rows = sound.rows;
     owns = sound.owns;
     log_history = sound.log_history;
     numbers = sound.numbers;
     late = sound.late;
-    starts = starts-ups sound.starts i may;
+    starts = starts-ups sound.starts i may.heard;
     answers = push-answers b.scan (Up line i) sound.answers tt tt tt sound.answers.scans;
     proper = push-proper (Up line i) sound.proper tt tt tt tt;
   }
-    where
-      lives : (y : Xid) → is_open y b.past ≡ true → (t : Bool) → cond t true (is_up y.seg b.past) ≡ true
-      lives y e true = refl
-      lives y e false = sound.lives y e

@@ -23,6 +23,7 @@ use Rattle.board_rows.proofs.Losses.{KeepsUnder, keeps-under, eqb-sym, all_filte
 use Rattle.board_rows.proofs.LossTxns.{committed-is, commit-kept, durable-kept, live-kept, over-before, txns-loses}
 use Rattle.board_rows.proofs.Logged.{IsTold, logged-loses}
 use Rattle.board_rows.proofs.NumberSteps.{numbers-loses}
+use Rattle.board_rows.proofs.SegmentSteps.{segments-loses}
 use Rattle.board_rows.proofs.LossRows.{under-kept, shown-kept, order-kept, replay-kept}
 
 -- what holds of each transaction's holds of all
@@ -182,10 +183,6 @@ module _ (asked : ℕ → Option Range) (insts : ℕ) (b : Board) (sound : Sound
       same : is_home z i b.past ≡ false → own_changes z now ≡ own_changes z b.past
       same off = own-same b.past now z (last z ∙ rw off refl) (λ y e. other y (apart z y off e))
 
-  lives-loses : (y : Xid) (t : Bool) → cond t false (is_open y b.past) ≡ true → cond t false (is_up y.seg b.past) ≡ true
-  lives-loses y true e = e
-  lives-loses y false e = sound.lives y e
-
   owns-loses : (z : ℕ) (x : Xid) → cond (is_home z i b.past) None (last_of z b.past) ≡ Some x → cond (x.seg == i) false (is_open x b.past) ≡ true → EachSuffix (λ older. FreeUnder committed (started_up_to z b.past) x (stands older)) there
   owns-loses z x e o = under-kept i kept committed (started_up_to z b.past) x b.recs under (sound.owns z x (last (is_home z i b.past) e) (was (x.seg == i) o))
     where
@@ -210,7 +207,7 @@ module _ (asked : ℕ → Option Range) (insts : ℕ) (b : Board) (sound : Sound
     clocks = clocks-loses;
     txns = txns-loses sound.txns i kept may.durable under;
     sessions = sessions-loses;
-    lives = λ y. lives-loses y (y.seg == i);
+    segments = segments-loses sound.segments i kept may.durable;
     rows = rows-loses;
     owns = owns-loses;
     log_history = history-loses;
@@ -224,7 +221,7 @@ module _ (asked : ℕ → Option Range) (insts : ℕ) (b : Board) (sound : Sound
     clocks = clocks-loses;
     txns = txns-loses sound.txns i kept may.durable under;
     sessions = sessions-loses;
-    lives = λ y. lives-loses y (y.seg == i);
+    segments = segments-loses sound.segments i kept may.durable;
     rows = rows-loses;
     owns = owns-loses;
     log_history = history-loses;

@@ -6,11 +6,11 @@ use Rattle.std.proofs.lemmas.Bool.Decides.{nat_tests}
 use Rattle.base_types.specs.declared.names.Xid.{Xid}
 use Rattle.journal.specs.Past.{same_xid}
 use Rattle.journal.specs.declared.deeds.Deed.{Deed}
-use Rattle.journal.proofs.XidLemmas.{both_true}
+use Rattle.journal.proofs.XidLemmas.{both_true, same_xid-true}
 use Rattle.board_rows.specs.Board.{Rec, Did, Back, Commits, Rolls, thread_of, scn_of, begun, Rising}
 use Rattle.board_rows.specs.Numbers.{did_in, IsNumbered, Numbered, IsWithin, wrap_in, xid_at, Numbers}
 use Rattle.board_rows.proofs.Shown.{all_of, clash}
-use Rattle.board_rows.proofs.Losses.{older-kept, Kept, kept-other}
+use Rattle.board_rows.proofs.Losses.{older-kept, Kept, kept-other, own-other, begun-kept}
 
 -- a transaction that has begun is within the wraps of its slot
 wrap-begun : (x : Xid) (recs : List Rec) → begun x recs ≡ true → x.wrap ≤ wrap_in x.seg x.slot recs
@@ -31,16 +31,26 @@ wrap-begun x (Back i c y seq row ∷ recs) h = wrap-begun x recs h
 wrap-begun x (Commits c y ∷ recs) h = wrap-begun x recs h
 wrap-begun x (Rolls i c y ∷ recs) h = wrap-begun x recs h
 
-module _ {recs : List Rec} {told since : ℕ → List (Xid × Deed)} {has : Xid → Bool} (h : Numbers recs told since has) where
+-- one more transaction has ended, which has begun
+pub ended-more : (recs : List Rec) (y x : Xid) (t : Bool) → same_xid y x ≡ t → (has : Bool) → begun x recs ≡ true → (has ≡ true → begun y recs ≡ true) → cond t true has ≡ true → begun y recs ≡ true
+ended-more recs y x true e has is old f = rw (same_xid-true y x e) is
+ended-more recs y x false e has is old f = old f
+
+module _ {recs : List Rec} {told since : ℕ → List (Xid × Deed)} {has ends : Xid → Bool} (h : Numbers recs told since has ends) where
   pub numbers-changes : (c : ℕ) (x : Xid) (seq : ℕ) (deed : Deed) → seq ≡ suc (length (did_in x.seg recs)) → (begun x recs ≡ true) ⊎ (x.wrap ≡ suc (wrap_in x.seg x.slot recs))
-      → Numbers (Did c x seq deed ∷ recs) (λ i. cond (i == x.seg) ((x, deed) ∷ told i) (told i)) (λ i. cond (i == x.seg) ((x, deed) ∷ since i) (since i)) (λ y. same_xid y x || has y)
+      → Numbers (Did c x seq deed ∷ recs) (λ i. cond (i == x.seg) ((x, deed) ∷ told i) (told i)) (λ i. cond (i == x.seg) ((x, deed) ∷ since i) (since i)) (λ y. same_xid y x || has y) ends
   numbers-changes c x seq deed next mine = record {
     numbered = (next, h.numbered);
     newest = λ i. newest i (i == x.seg);
     within = λ i. within i (i == x.seg);
     wraps = λ seg slot w low up. wraps seg slot w low (seg == x.seg && slot == x.slot) refl up;
+    ended = λ y e. ended (same_xid y x) (h.ended y e);
   }
     where
+      ended : (t : Bool) {was : Bool} → was ≡ true → cond t true was ≡ true
+      ended true e = refl
+      ended false e = e
+
       newest : (i : ℕ) (t : Bool) → (rest : List (Xid × Deed)) × (cond t ((x, deed) ∷ did_in i recs) (did_in i recs) ≡ cond t ((x, deed) ∷ since i) (since i) ++ rest)
       newest i true = let n = h.newest i in (n.0, ap (λ ds. (x, deed) ∷ ds) n.1)
       newest i false = h.newest i
@@ -153,14 +163,19 @@ module _ (i kept : ℕ) where
       here (Rolls j c x) true ih = ih
       here (Rolls j c x) false ih = ih
 
-  pub numbers-loses : {recs : List Rec} {told since : ℕ → List (Xid × Deed)} {has : Xid → Bool} → Numbers recs told since has → Rising recs → Numbers (filter (Kept i kept) recs) told (λ j. cond (j == i) [] (since j)) has
-  numbers-loses {recs} {told} {since} h rising = record {
+  pub numbers-loses : {recs : List Rec} {told since : ℕ → List (Xid × Deed)} {has ends : Xid → Bool} → Numbers recs told since has ends → Rising recs → Numbers (filter (Kept i kept) recs) told (λ j. cond (j == i) [] (since j)) has (λ y. cond (y.seg == i) false (ends y))
+  numbers-loses {recs} {told} {since} {has} {ends} h rising = record {
     numbered = numbered-kept recs rising h.numbered;
     newest = λ j. newest j (j == i) refl;
     within = λ j. within-kept j recs (told j) rising (h.within j);
     wraps = λ seg slot w low up. h.wraps seg slot w low (let le = wrap-kept seg slot recs in omega arith);
+    ended = λ y. ended y (y.seg == i) refl;
   }
     where
+      ended : (y : Xid) (t : Bool) → (y.seg == i) ≡ t → cond t false (ends y) ≡ true → begun y (filter (Kept i kept) recs) ≡ true
+      ended y true e f = clash false f refl
+      ended y false e f = begun-kept i kept y recs (own-other i kept y recs e) ∙ h.ended y f
+
       newest : (j : ℕ) (t : Bool) → (j == i) ≡ t → (rest : List (Xid × Deed)) × (did_in j (filter (Kept i kept) recs) ≡ cond t [] (since j) ++ rest)
       newest j true e = (did_in j (filter (Kept i kept) recs), refl)
       newest j false e =

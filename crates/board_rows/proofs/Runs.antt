@@ -24,11 +24,11 @@ module _ (asked : ℕ → Option Range) (insts : ℕ) where
       apart = λ c i lt. refl;
     };
     sessions = record { used = λ z x e. (cc); single = λ y z x e f. (cc); at_home = λ z x e. (cc) };
-    lives = λ x e. absurd (false≢true e);
+    segments = record { lives = λ x e. absurd (false≢true e); active = λ x e. (cc); safe = tt; under = tt };
     rows = record { order = tt; deeds_replay = tt; table = λ s k. refl; made = tt; replay = tt };
     owns = λ z x e o. (cc);
     log_history = refl;
-    numbers = record { numbered = tt; newest = λ i. ([], refl); within = λ i. tt; wraps = λ seg slot w low up. absurd (omega arith) };
+    numbers = record { numbered = tt; newest = λ i. ([], refl); within = λ i. tt; wraps = λ seg slot w low up. absurd (omega arith); ended = λ x e. absurd (false≢true e) };
     late = tt;
     starts = record { acks = λ j low up. omega arith; starts = λ z i at stays is. omega arith; unopened = λ z e. refl; homes = λ z i e. (cc) };
     answers = record { rows = tt; found = tt; read = tt; scans = λ z. unread-seen (λ k. 0) [] 0 0 (λ s. sees [] [] (record { session = z; snapshot = s })) };

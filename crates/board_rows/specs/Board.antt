@@ -1,5 +1,5 @@
 -- The board: the redo records of all instances in the order made, the newest first, told without bytes.
-use Rattle.std.specs.Prelude.{ℕ, ◌<◌, ◌≡◌, Bool, true, false, if◌then◌else◌, ◌==◌, ◌&&◌, nat_le, List, [], ◌∷◌, Option, Some, None}
+use Rattle.std.specs.Prelude.{ℕ, ◌<◌, ◌≤◌, ◌≡◌, ◌⊎◌, Bool, true, false, if◌then◌else◌, ◌==◌, ◌&&◌, nat_le, List, [], ◌∷◌, Option, Some, None}
 use Rattle.std.specs.List.{filter, AllByRecursion}
 use Rattle.base_types.specs.declared.names.Xid.{Xid}
 use Rattle.journal.specs.Past.{same_xid}
@@ -106,3 +106,7 @@ EachSuffix P (r ∷ older) = P (r ∷ older) × EachSuffix P older
 abbrev pub Rising : List Rec → Type 0
 Rising [] = Unit {0}
 Rising (r ∷ older) = AllByRecursion (λ o. thread_of o ≡ thread_of r → scn_of o < scn_of r) older × Rising older
+
+-- a record in the thread of its transaction's segment, or one that has entered
+abbrev pub IsSafe : (ℕ → ℕ) → Rec → Type 0
+IsSafe durable r = (thread_of r ≡ (xid_of r).seg) ⊎ (scn_of r ≤ durable (thread_of r))

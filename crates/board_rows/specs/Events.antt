@@ -13,7 +13,7 @@ use Rattle.journal.specs.History.{value_by}
 use Rattle.journal.specs.Sees.{last_of, own, is_home}
 use Rattle.journal.specs.Stood.{stood, is_mark_by, came_up, acked_up_to, started_up_to}
 use Rattle.journal.specs.Good.{Range, listed_before}
-use Rattle.board_rows.specs.Board.{Rec, Did, Back, Commits, Rolls, Mod, thread_of, scn_of, xid_of, touches, stands, of_xid, Stage, Fresh, Active, Over, stage}
+use Rattle.board_rows.specs.Board.{Rec, Did, Back, Commits, Rolls, Mod, thread_of, scn_of, xid_of, touches, stands, of_xid, Stage, Fresh, Active, Over, stage, IsSafe}
 use Rattle.board_rows.specs.Numbers.{did_in, wrap_in}
 use Rattle.board_rows.specs.Rows.{on, NewestIsFree, deeds_in, shown, committed_at, seen_at}
 
@@ -216,6 +216,13 @@ pub record MayJoin (b : Board) (i c known : ℕ) : Type 0 where
   pub drawn : AllByRecursion (λ r. thread_of r ≡ i → scn_of r ≤ c) b.recs
   pub low : known ≤ c
 
+-- An instance comes up: its statements will see each answered commit, no transaction of its segment is left without an
+-- end, and what other threads have for the segment has entered.
+pub record MayUp (b : Board) (i : ℕ) : Type 0 where
+  pub heard : acked_up_to b.past ≤ b.known i
+  pub ended : (x : Xid) → x.seg ≡ i → stage x b.recs ≢ Active
+  pub safe : AllByRecursion (λ r. (xid_of r).seg ≡ i → IsSafe b.durable r) b.recs
+
 -- what an event needs, over so many instances, where statements ask for these rows
 abbrev pub May : (ℕ → Option Range) → ℕ → Board → Event → Type 0
 May asked insts b (opens z i) = MayOpen insts b z i
@@ -233,7 +240,7 @@ May asked insts b (acks n c x) = MayAck insts b n c x
 May asked insts b (notes e) = IsNote e
 May asked insts b (loses i kept loss) = MayLose b i kept
 May asked insts b (joins i c known) = MayJoin b i c known
-May asked insts b (ups line i) = acked_up_to b.past ≤ b.known i
+May asked insts b (ups line i) = MayUp b i
 
 abbrev pub entry_of : ℕ → Xid → Deed → Entry
 entry_of n x (Changes change) = Changed n x change.row change.found change.new

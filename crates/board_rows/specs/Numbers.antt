@@ -2,11 +2,11 @@
 use Rattle.std.specs.Prelude.{ℕ, suc, ◌≡◌, ◌<◌, ◌≤◌, ◌⊎◌, max, Bool, true, false, if◌then◌else◌, ◌==◌, ◌&&◌, List, [], ◌∷◌, ◌++◌, length}
 use Rattle.base_types.specs.declared.names.Xid.{Xid}
 use Rattle.journal.specs.declared.entry.Entry.{Entry}
-use Rattle.journal.specs.declared.entry.Entry.TheVariants.{Changed, Locked}
+use Rattle.journal.specs.declared.entry.Entry.TheVariants.{Changed, Locked, Marked, Rolled}
 use Rattle.journal.specs.Past.{Past, same_xid, is_loss_of}
 use Rattle.journal.specs.declared.deeds.Deed.{Deed}
 use Rattle.journal.specs.declared.deeds.Deed.TheVariants.{Changes, Locks}
-use Rattle.board_rows.specs.Board.{Rec, Did}
+use Rattle.board_rows.specs.Board.{Rec, Did, begun}
 
 -- the deeds of a segment that have a record, the newest first
 abbrev pub did_after : ℕ → Rec → List (Xid × Deed) → List (Xid × Deed)
@@ -69,9 +69,21 @@ is_deed_of x _ = false
 abbrev pub xid_at : ℕ → ℕ → ℕ → Xid
 xid_at seg slot wrap = record { seg = seg; slot = slot; wrap = wrap }
 
--- The numbers of a segment's deeds, in the records and in the journal, and the wraps of its slots.
-pub record Numbers (recs : List Rec) (told since : ℕ → List (Xid × Deed)) (has_deed : Xid → Bool) : Type 0 where
+-- whether a transaction was marked or rolled back since its instance was last lost
+abbrev pub end_after : Xid → Entry → Bool → Bool
+end_after x (Marked stmt y commit_scn) before = if same_xid x y then true else before
+end_after x (Rolled y) before = if same_xid x y then true else before
+end_after x e before = if is_loss_of x.seg e then false else before
+
+abbrev pub has_end : Xid → Past → Bool
+has_end x [] = false
+has_end x (e ∷ past) = end_after x e (has_end x past)
+
+-- The numbers of a segment's deeds, in the records and in the journal, and the wraps of its slots; who has ended since
+-- the loss of its instance has a record.
+pub record Numbers (recs : List Rec) (told since : ℕ → List (Xid × Deed)) (has_deed has_end : Xid → Bool) : Type 0 where
   pub numbered : Numbered recs
   pub newest : (i : ℕ) → (rest : List (Xid × Deed)) × (did_in i recs ≡ since i ++ rest)
   pub within : (i : ℕ) → IsWithin (did_in i recs) (told i)
   pub wraps : (seg slot wrap : ℕ) → 0 < wrap → wrap ≤ wrap_in seg slot recs → has_deed (xid_at seg slot wrap) ≡ true
+  pub ended : (x : Xid) → has_end x ≡ true → begun x recs ≡ true

@@ -14,9 +14,9 @@ use Rattle.journal.specs.History.{history, marked}
 use Rattle.journal.specs.Sees.{sees, last_of}
 use Rattle.journal.specs.Stood.{stood, is_mark, is_commit_by, acked_up_to, started_up_to, came_up}
 use Rattle.journal.specs.Good.{Range, listed, RowsAreSeen, FoundIsSeen, CommitIsProper, AckIsProper, StartIsProper, RowIsFree, changes_in, Replays}
-use Rattle.board_rows.specs.Board.{Rec, Did, Back, Commits, Rolls, thread_of, scn_of, xid_of, stands, of_xid, Stage, Fresh, Active, Over, stage, begun, on_disk, EachSuffix, Rising}
+use Rattle.board_rows.specs.Board.{Rec, Did, Back, Commits, Rolls, thread_of, scn_of, xid_of, stands, of_xid, Stage, Fresh, Active, Over, stage, begun, on_disk, EachSuffix, Rising, IsSafe}
 use Rattle.board_rows.specs.Rows.{deeds_in, committed_at, Ordered, TableStands, IsMade, FreeUnder, logged}
-use Rattle.board_rows.specs.Numbers.{Numbers, told_in, since_loss, is_deed_of}
+use Rattle.board_rows.specs.Numbers.{Numbers, told_in, since_loss, is_deed_of, has_end}
 use Rattle.board_rows.specs.Events.{Board, Scan, IsLate}
 
 -- clocks, and the SCNs of records by thread
@@ -91,6 +91,23 @@ pub record Txns (recs : List Rec) (durable : ℕ → ℕ) (stand : Xid → List 
   pub follows : Follows recs
   pub apart : (c i : ℕ) → durable i < c → has_commit c i ≡ false
 
+-- Under a change or lock each record that another thread has for its segment has entered, so no loss takes it away.
+abbrev pub IsOnSafe : (ℕ → ℕ) → Rec → List Rec → Type 0
+IsOnSafe durable (Did c x seq deed) older = AllByRecursion (λ o. (xid_of o).seg ≡ x.seg → IsSafe durable o) older
+IsOnSafe durable _ older = Unit {0}
+
+abbrev pub AreOnSafe : (ℕ → ℕ) → List Rec → Type 0
+AreOnSafe durable [] = Unit {0}
+AreOnSafe durable (r ∷ older) = IsOnSafe durable r older × AreOnSafe durable older
+
+-- The transactions of an instance that is up are open until they end, and those of one that is down aren't open; what
+-- other threads have for the segment of an instance that is up has entered.
+pub record Segments (recs : List Rec) (durable : ℕ → ℕ) (live : Xid → Bool) (up : ℕ → Bool) : Type 0 where
+  pub lives : (x : Xid) → live x ≡ true → up x.seg ≡ true
+  pub active : (x : Xid) → stage x recs ≡ Active → up x.seg ≡ true → live x ≡ true
+  pub safe : AllByRecursion (λ r. up (xid_of r).seg ≡ true → IsSafe durable r) recs
+  pub under : AreOnSafe durable recs
+
 -- the last transactions of the sessions
 pub record Sessions (begins : Xid → Bool) (last : ℕ → Option Xid) (home : ℕ → Option ℕ) : Type 0 where
   pub used : (z : ℕ) (x : Xid) → last z ≡ Some x → begins x ≡ true
@@ -153,12 +170,13 @@ pub record Sound (asked : ℕ → Option Range) (insts : ℕ) (b : Board) : Type
   pub txns : Txns b.recs b.durable (λ x. standing x b.past) (λ x. is_open x b.past) (λ x c. marked x c b.past)
       (λ x c. stood (is_mark x c) b.past) (λ x. committed_at x b.past) (λ c i. stood (is_commit_by c i) b.past)
   pub sessions : Sessions (λ x. begun x b.recs) (λ z. last_of z b.past) (λ z. home_of z b.past)
-  pub lives : (x : Xid) → is_open x b.past ≡ true → is_up x.seg b.past ≡ true
+  pub segments : Segments b.recs b.durable (λ x. is_open x b.past) (λ i. is_up i b.past)
   pub rows : RowsStand b.recs (λ x. committed_at x b.past) (history b.past)
   pub owns : (z : ℕ) (x : Xid) → last_of z b.past ≡ Some x → is_open x b.past ≡ true →
       EachSuffix (λ older. FreeUnder (λ y. committed_at y b.past) (started_up_to z b.past) x (stands older)) b.recs
   pub log_history : history b.past ≡ logged b.durable b.recs
   pub numbers : Numbers b.recs (λ i. told_in i b.past) (λ i. since_loss i b.past) (λ x. stood (is_deed_of x) b.past)
+      (λ x. has_end x b.past)
   pub late : RowsAreLate b.recs b.scn b.floor (λ x. is_open x b.past) (λ x. committed_at x b.past)
   pub starts : Starts insts b.known (λ z. home_of z b.past) (λ z. started_up_to z b.past) (λ z. came_up z b.past)
       (λ i. is_up i b.past) (acked_up_to b.past)
