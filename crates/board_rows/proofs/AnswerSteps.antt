@@ -18,7 +18,7 @@ use Rattle.journal.specs.History.{entered, changes_up_to, value_by}
 use Rattle.journal.specs.Sees.{sees, last_of, own_changes}
 use Rattle.journal.specs.Good.{Range, listed, listed_before, RowsAreSeen, FoundIsSeen}
 use Rattle.journal.proofs.XidLemmas.{same_xid-true}
-use Rattle.board_rows.specs.Board.{Rec, Mod, stands, of_xid, Over, stage}
+use Rattle.board_rows.specs.Board.{Record, DeedAt, stands, of_xid, Over, stage}
 use Rattle.board_rows.specs.Rows.{on, on_row, deeds_in}
 use Rattle.board_rows.specs.Events.{Scan, put, unread, anew, read_on}
 use Rattle.board_rows.specs.Sound.{RowsAreLate, RowsStand, AreRead, IsRead, ScanIsSeen, Answers}
@@ -110,10 +110,10 @@ module _ (asked : ℕ → Option Range) (floor : ℕ → ℕ) (old new : List Co
       found past _ = λ r e. e
 
 -- the commit that becomes durable leaves what was read
-module _ (recs : List Rec) (scn floor : ℕ → ℕ) (live : Xid → Bool) {committed : Xid → Option ℕ} {commits : List Commit} (x : Xid) (a : Commit)
+module _ (recs : List Record) (scn floor : ℕ → ℕ) (live : Xid → Bool) {committed : Xid → Option ℕ} {commits : List Commit} (x : Xid) (a : Commit)
     (new : committed x ≡ None) (is : stage x recs ≡ Over (Some a.commit_scn)) (marked : a.changes ≡ changes_of (deeds_in (of_xid x (stands recs))))
     (below : AllByRecursion (λ m. same_xid x m.xid ≡ true → m.scn < a.commit_scn) (stands recs)) (late : RowsAreLate recs scn floor live committed) (rows : RowsStand recs committed commits) where
-  none-or-above : (k : ℕ) (mods : List Mod) → AllByRecursion (Late recs scn floor live committed) mods → NoneOn k (same_xid x) mods ⊎ (floor k < a.commit_scn)
+  none-or-above : (k : ℕ) (mods : List DeedAt) → AllByRecursion (Late recs scn floor live committed) mods → NoneOn k (same_xid x) mods ⊎ (floor k < a.commit_scn)
   none-or-above k [] h = inl tt
   none-or-above k (m ∷ mods) h = here (on k m) refl (same_xid x m.xid) refl (none-or-above k mods h.1)
     where

@@ -12,7 +12,7 @@ use Rattle.journal.specs.declared.deeds.Deed.{Deed}
 use Rattle.journal.specs.declared.deeds.Deed.TheVariants.{Changes, Locks}
 use Rattle.journal.specs.Past.{same_xid}
 use Rattle.journal.specs.Good.{Range}
-use Rattle.board_rows.specs.Board.{Rec, Did, Back, Commits, Rolls, Mod, Stage, Fresh, Active, Over}
+use Rattle.board_rows.specs.Board.{Record, Does, TakesBack, Commits, RollsBack, DeedAt, Stage, Fresh, Active, Over}
 use Rattle.board_rows.specs.Events
 use Rattle.board_rows.specs.Events.{Board, Event, Crash, Fault, after, nothing, Leads}
 use Rattle.board_rows.specs.Headers.{MayTell}
@@ -39,17 +39,17 @@ first_deed = Changes (record { row = 0; found = Absent; new = Num (pos 5) })
 abbrev second_deed : Deed
 second_deed = Changes (record { row = 0; found = Num (pos 5); new = Num (pos 7) })
 
-abbrev first_mod : Mod
+abbrev first_mod : DeedAt
 first_mod = record { xid = x; seq = 1; scn = 1; deed = first_deed }
 
-abbrev m : Mod
+abbrev m : DeedAt
 m = record { xid = y; seq = 1; scn = 3; deed = second_deed }
 
-abbrev old : List Rec
-old = Commits 2 x ∷ Did 1 x 1 first_deed ∷ []
+abbrev old : List Record
+old = Commits 2 x ∷ Does 1 x 1 first_deed ∷ []
 
-abbrev newer : List Rec
-newer = Rolls 0 4 y ∷ Back 0 3 y 1 0 ∷ Did 3 y 1 second_deed ∷ []
+abbrev newer : List Record
+newer = RollsBack 0 4 y ∷ TakesBack 0 3 y 1 0 ∷ Does 3 y 1 second_deed ∷ []
 
 abbrev events : List Event
 events =
@@ -59,8 +59,8 @@ events =
     ∷ Events.changes 1 0 0 x 1 first_deed
     ∷ Events.starts 2 0 0 0 0
     ∷ Events.marks 2 x
-    ∷ Events.settles (Commits 2 x ∷ []) (Did 1 x 1 first_deed) []
-    ∷ Events.settles [] (Commits 2 x) (Did 1 x 1 first_deed ∷ [])
+    ∷ Events.settles (Commits 2 x ∷ []) (Does 1 x 1 first_deed) []
+    ∷ Events.settles [] (Commits 2 x) (Does 1 x 1 first_deed ∷ [])
     ∷ Events.learns 0 2
     ∷ Events.raises 1 2
     ∷ Events.learns 1 2
@@ -71,12 +71,12 @@ events =
     ∷ Events.answers 3 1
     ∷ Events.starts 4 1 1 0 0
     ∷ Events.changes 4 1 2 y 1 second_deed
-    ∷ Events.settles [] (Did 3 y 1 second_deed) old
+    ∷ Events.settles [] (Does 3 y 1 second_deed) old
     ∷ Events.loses 1 3 (Crash 9)
     ∷ Events.takes_back 0 y 1 0 0
     ∷ Events.rolls 0 y
-    ∷ Events.settles (Rolls 0 4 y ∷ []) (Back 0 3 y 1 0) (Did 3 y 1 second_deed ∷ old)
-    ∷ Events.settles [] (Rolls 0 4 y) (Back 0 3 y 1 0 ∷ Did 3 y 1 second_deed ∷ old)
+    ∷ Events.settles (RollsBack 0 4 y ∷ []) (TakesBack 0 3 y 1 0) (Does 3 y 1 second_deed ∷ old)
+    ∷ Events.settles [] (RollsBack 0 4 y) (TakesBack 0 3 y 1 0 ∷ Does 3 y 1 second_deed ∷ old)
     ∷ Events.joins 1 5 2
     ∷ Events.ups 9 1
     ∷ Events.opens 2 1
@@ -103,7 +103,7 @@ ended w false false e = (cc)
 
 run : Leads asked 2 nothing events (ends_at nothing events)
 unfolding asked
-run = (record { new = refl; inst = omega arith }, (record { new = refl; inst = omega arith }, (record { home = refl; up = refl; stays = refl; low = omega arith }, (record { way = refl; home = refl; up = refl; low = omega arith; mine = inr (refl, refl, refl); next = refl; last = refl; newest = tt; floor = omega arith; found = refl }, (record { home = refl; up = refl; stays = refl; low = omega arith }, (refl, (record { place = refl; new = omega arith; first = tt }, (record { place = refl; new = omega arith; first = ((λ e. omega arith), tt) }, (omega arith, (tt, (omega arith, (record { mark = refl; commit = refl; durable = omega arith; heard = λ j low is. heard j low }, (record { home = refl; up = refl; stays = refl; low = omega arith }, (record { look = record { home = refl; low = omega arith; image = refl; later = tt; told = ((λ a. inr (refl, λ none. (cc))), tt) }; next = refl }, (record { look = record { home = refl; low = omega arith; image = refl; later = tt; told = ((λ a. absurd (false≢true a)), tt) }; next = refl }, (record { way = refl; range = refl }, (record { home = refl; up = refl; stays = refl; low = omega arith }, (record { way = refl; home = refl; up = refl; low = omega arith; mine = inr (refl, refl, refl); next = refl; last = refl; newest = ((λ a. inr (omega arith)), λ e. tt); floor = omega arith; found = refl }, (record { place = refl; new = omega arith; first = ((λ e. omega arith), ((λ e. omega arith), tt)) }, (record { durable = omega arith; newest = ((λ e. absurd (e refl)), ((λ e. ((λ n. refl), tt)), ((λ e. tt), tt))) }, (record { may = (refl, λ e. absurd (false≢true e)); m = m; rest = []; newest = refl; number = refl; place = refl; stays = λ e. refl }, (record { may = (refl, λ e. absurd (false≢true e)); none = refl }, (record { place = refl; new = omega arith; first = ((λ e. omega arith), ((λ e. omega arith), ((λ e. omega arith), tt))) }, (record { place = refl; new = omega arith; first = ((λ e. omega arith), ((λ e. omega arith), ((λ e. omega arith), ((λ e. omega arith), tt)))) }, (record { down = refl; durable = omega arith; drawn = ((λ e. omega arith), ((λ e. omega arith), ((λ e. omega arith), ((λ e. omega arith), ((λ e. omega arith), tt))))); low = omega arith }, (record { heard = omega arith; ended = λ w e. ended w (same_xid w x) (same_xid w y); safe = ((λ e. inr (omega arith)), ((λ e. inr (omega arith)), ((λ e. inl refl), ((λ e. inl refl), ((λ e. inl refl), tt))))) }, (record { new = refl; inst = omega arith }, (record { home = refl; up = refl; stays = refl; low = omega arith }, (record { look = record { home = refl; low = omega arith; image = refl; later = ((λ a. absurd (false≢true a)), ((λ a. (omega arith, refl)), ((λ a. (omega arith, refl)), tt))); told = ((λ a. inr (refl, λ none. (cc))), tt) }; next = refl }, (record { look = record { home = refl; low = omega arith; image = refl; later = ((λ a. absurd (false≢true a)), ((λ a. absurd (false≢true a)), ((λ a. absurd (false≢true a)), tt))); told = ((λ a. absurd (false≢true a)), tt) }; next = refl }, (record { way = refl; range = refl }, refl)))))))))))))))))))))))))))))))
+run = (record { new = refl; within = omega arith }, (record { new = refl; within = omega arith }, (record { home = refl; up = refl; stays = refl; low = omega arith }, (record { way = refl; home = refl; up = refl; low = omega arith; mine = inr (refl, refl, refl); next = refl; last = refl; newest = tt; floor = omega arith; found = refl }, (record { home = refl; up = refl; stays = refl; low = omega arith }, (refl, (record { place = refl; new = omega arith; first = tt }, (record { place = refl; new = omega arith; first = ((λ e. omega arith), tt) }, (omega arith, (tt, (omega arith, (record { mark = refl; commit = refl; durable = omega arith; heard = λ j low is. heard j low }, (record { home = refl; up = refl; stays = refl; low = omega arith }, (record { look = record { home = refl; low = omega arith; image = refl; later = tt; told = ((λ a. inr (refl, λ none. (cc))), tt) }; next = refl }, (record { look = record { home = refl; low = omega arith; image = refl; later = tt; told = ((λ a. absurd (false≢true a)), tt) }; next = refl }, (record { way = refl; range = refl }, (record { home = refl; up = refl; stays = refl; low = omega arith }, (record { way = refl; home = refl; up = refl; low = omega arith; mine = inr (refl, refl, refl); next = refl; last = refl; newest = ((λ a. inr (omega arith)), λ e. tt); floor = omega arith; found = refl }, (record { place = refl; new = omega arith; first = ((λ e. omega arith), ((λ e. omega arith), tt)) }, (record { durable = omega arith; newest = ((λ e. absurd (e refl)), ((λ e. ((λ n. refl), tt)), ((λ e. tt), tt))) }, (record { may = (refl, λ e. absurd (false≢true e)); m = m; rest = []; newest = refl; number = refl; place = refl; stays = λ e. refl }, (record { may = (refl, λ e. absurd (false≢true e)); none = refl }, (record { place = refl; new = omega arith; first = ((λ e. omega arith), ((λ e. omega arith), ((λ e. omega arith), tt))) }, (record { place = refl; new = omega arith; first = ((λ e. omega arith), ((λ e. omega arith), ((λ e. omega arith), ((λ e. omega arith), tt)))) }, (record { down = refl; durable = omega arith; drawn = ((λ e. omega arith), ((λ e. omega arith), ((λ e. omega arith), ((λ e. omega arith), ((λ e. omega arith), tt))))); low = omega arith }, (record { heard = omega arith; ended = λ w e. ended w (same_xid w x) (same_xid w y); safe = ((λ e. inr (omega arith)), ((λ e. inr (omega arith)), ((λ e. inl refl), ((λ e. inl refl), ((λ e. inl refl), tt))))) }, (record { new = refl; within = omega arith }, (record { home = refl; up = refl; stays = refl; low = omega arith }, (record { look = record { home = refl; low = omega arith; image = refl; later = ((λ a. absurd (false≢true a)), ((λ a. (omega arith, refl)), ((λ a. (omega arith, refl)), tt))); told = ((λ a. inr (refl, λ none. (cc))), tt) }; next = refl }, (record { look = record { home = refl; low = omega arith; image = refl; later = ((λ a. absurd (false≢true a)), ((λ a. absurd (false≢true a)), ((λ a. absurd (false≢true a)), tt))); told = ((λ a. absurd (false≢true a)), tt) }; next = refl }, (record { way = refl; range = refl }, refl)))))))))))))))))))))))))))))))
 
 -- what it tells, the newest entry first
 abbrev journal : List Entry
@@ -133,7 +133,7 @@ tells : (ends_at nothing events).past ≡ journal
 tells = refl
 
 -- a header of a later moment than the image tells of the commit
-header : MayTell (ends_at nothing events) 2 0 x newer (Commits 2 x ∷ []) (Did 1 x 1 first_deed ∷ [])
+header : MayTell (ends_at nothing events) 2 0 x newer (Commits 2 x ∷ []) (Does 1 x 1 first_deed ∷ [])
 header = record {
   image = refl;
   later = ((λ a. absurd (false≢true a)), ((λ a. omega arith), ((λ a. omega arith), ((λ a. absurd (false≢true a)), tt))));
@@ -143,10 +143,10 @@ header = record {
   last = λ e is. (cc);
 }
 
-abbrev again : List Rec
+abbrev again : List Record
 again =
-    Did 7 z 3 (Changes (record { row = 1; found = Absent; new = Num (pos 7) }))
-    ∷ Did 6 z 2 (Locks 1) ∷ Rolls 1 2 x ∷ Back 1 1 x 1 0 ∷ Did 1 x 1 first_deed ∷ []
+    Does 7 z 3 (Changes (record { row = 1; found = Absent; new = Num (pos 7) }))
+    ∷ Does 6 z 2 (Locks 1) ∷ RollsBack 1 2 x ∷ TakesBack 1 1 x 1 0 ∷ Does 1 x 1 first_deed ∷ []
 
 abbrev losing : List Event
 losing =
@@ -160,11 +160,11 @@ losing =
     ∷ Events.starts 3 0 0 0 0
     ∷ Events.marks 3 x
     ∷ Events.loses 0 1 (Fault false)
-    ∷ Events.settles [] (Did 1 x 1 first_deed) []
+    ∷ Events.settles [] (Does 1 x 1 first_deed) []
     ∷ Events.takes_back 1 x 1 0 0
     ∷ Events.rolls 1 x
-    ∷ Events.settles (Rolls 1 2 x ∷ []) (Back 1 1 x 1 0) (Did 1 x 1 first_deed ∷ [])
-    ∷ Events.settles [] (Rolls 1 2 x) (Back 1 1 x 1 0 ∷ Did 1 x 1 first_deed ∷ [])
+    ∷ Events.settles (RollsBack 1 2 x ∷ []) (TakesBack 1 1 x 1 0) (Does 1 x 1 first_deed ∷ [])
+    ∷ Events.settles [] (RollsBack 1 2 x) (TakesBack 1 1 x 1 0 ∷ Does 1 x 1 first_deed ∷ [])
     ∷ Events.joins 0 5 0
     ∷ Events.ups 9 0
     ∷ Events.opens 3 0
@@ -181,7 +181,7 @@ losing =
 
 run-losing : Leads asked 2 nothing losing (ends_at nothing losing)
 unfolding asked
-run-losing = (record { new = refl; inst = omega arith }, (record { new = refl; inst = omega arith }, (record { home = refl; up = refl; stays = refl; low = omega arith }, (record { way = refl; home = refl; up = refl; low = omega arith; mine = inr (refl, refl, refl); next = refl; last = refl; newest = tt; floor = omega arith; found = refl }, (record { new = refl; inst = omega arith }, (record { home = refl; up = refl; stays = refl; low = omega arith }, (record { way = refl; home = refl; up = refl; low = omega arith; mine = inr (refl, refl, refl); next = refl; last = refl; newest = ((λ a. absurd (false≢true a)), λ e. tt); floor = omega arith; found = tt }, (record { home = refl; up = refl; stays = refl; low = omega arith }, (refl, (record { durable = omega arith; newest = ((λ e. absurd (e refl)), ((λ e. absurd (e refl)), ((λ e. absurd (e refl)), tt))) }, (record { place = refl; new = omega arith; first = tt }, (record { may = (refl, λ e. absurd (false≢true e)); m = first_mod; rest = []; newest = refl; number = refl; place = refl; stays = λ e. refl }, (record { may = (refl, λ e. absurd (false≢true e)); none = refl }, (record { place = refl; new = omega arith; first = ((λ e. omega arith), tt) }, (record { place = refl; new = omega arith; first = ((λ e. omega arith), ((λ e. omega arith), tt)) }, (record { down = refl; durable = omega arith; drawn = ((λ e. omega arith), ((λ e. omega arith), ((λ e. omega arith), tt))); low = omega arith }, (record { heard = omega arith; ended = λ w e. rolled w (same_xid w x); safe = ((λ e. inr (omega arith)), ((λ e. inr (omega arith)), ((λ e. inl refl), tt))) }, (record { new = refl; inst = omega arith }, (record { home = refl; up = refl; stays = refl; low = omega arith }, (record { home = refl; up = refl; stays = refl; low = omega arith }, (record { way = refl; home = refl; up = refl; low = omega arith; mine = inr (refl, refl, refl); next = refl; last = refl; newest = tt; floor = omega arith; found = tt }, (record { home = refl; up = refl; stays = refl; low = omega arith }, (record { way = refl; home = refl; up = refl; low = omega arith; mine = inl refl; next = refl; last = refl; newest = ((λ a. inl refl), λ e. tt); floor = omega arith; found = refl }, (record { home = refl; up = refl; stays = refl; low = omega arith }, (record { look = record { home = refl; low = omega arith; image = refl; later = tt; told = ((λ a. absurd (false≢true a)), ((λ a. absurd (false≢true a)), tt)) }; next = refl }, (record { look = record { home = refl; low = omega arith; image = refl; later = tt; told = ((λ a. inl refl), ((λ a. inl refl), tt)) }; next = refl }, (record { way = refl; range = refl }, refl)))))))))))))))))))))))))))
+run-losing = (record { new = refl; within = omega arith }, (record { new = refl; within = omega arith }, (record { home = refl; up = refl; stays = refl; low = omega arith }, (record { way = refl; home = refl; up = refl; low = omega arith; mine = inr (refl, refl, refl); next = refl; last = refl; newest = tt; floor = omega arith; found = refl }, (record { new = refl; within = omega arith }, (record { home = refl; up = refl; stays = refl; low = omega arith }, (record { way = refl; home = refl; up = refl; low = omega arith; mine = inr (refl, refl, refl); next = refl; last = refl; newest = ((λ a. absurd (false≢true a)), λ e. tt); floor = omega arith; found = tt }, (record { home = refl; up = refl; stays = refl; low = omega arith }, (refl, (record { durable = omega arith; newest = ((λ e. absurd (e refl)), ((λ e. absurd (e refl)), ((λ e. absurd (e refl)), tt))) }, (record { place = refl; new = omega arith; first = tt }, (record { may = (refl, λ e. absurd (false≢true e)); m = first_mod; rest = []; newest = refl; number = refl; place = refl; stays = λ e. refl }, (record { may = (refl, λ e. absurd (false≢true e)); none = refl }, (record { place = refl; new = omega arith; first = ((λ e. omega arith), tt) }, (record { place = refl; new = omega arith; first = ((λ e. omega arith), ((λ e. omega arith), tt)) }, (record { down = refl; durable = omega arith; drawn = ((λ e. omega arith), ((λ e. omega arith), ((λ e. omega arith), tt))); low = omega arith }, (record { heard = omega arith; ended = λ w e. rolled w (same_xid w x); safe = ((λ e. inr (omega arith)), ((λ e. inr (omega arith)), ((λ e. inl refl), tt))) }, (record { new = refl; within = omega arith }, (record { home = refl; up = refl; stays = refl; low = omega arith }, (record { home = refl; up = refl; stays = refl; low = omega arith }, (record { way = refl; home = refl; up = refl; low = omega arith; mine = inr (refl, refl, refl); next = refl; last = refl; newest = tt; floor = omega arith; found = tt }, (record { home = refl; up = refl; stays = refl; low = omega arith }, (record { way = refl; home = refl; up = refl; low = omega arith; mine = inl refl; next = refl; last = refl; newest = ((λ a. inl refl), λ e. tt); floor = omega arith; found = refl }, (record { home = refl; up = refl; stays = refl; low = omega arith }, (record { look = record { home = refl; low = omega arith; image = refl; later = tt; told = ((λ a. absurd (false≢true a)), ((λ a. absurd (false≢true a)), tt)) }; next = refl }, (record { look = record { home = refl; low = omega arith; image = refl; later = tt; told = ((λ a. inl refl), ((λ a. inl refl), tt)) }; next = refl }, (record { way = refl; range = refl }, refl)))))))))))))))))))))))))))
 
 abbrev journal-losing : List Entry
 journal-losing =

@@ -10,7 +10,7 @@ use Rattle.journal.specs.Standing.{changes_of}
 use Rattle.journal.specs.declared.deeds.Commit.{Commit}
 use Rattle.journal.specs.History.{is_before, entered}
 use Rattle.journal.proofs.XidLemmas.{same_xid-refl, same_xid-true}
-use Rattle.board_rows.specs.Board.{Rec, Did, Back, Commits, Rolls, Mod, thread_of, scn_of, xid_of, stands, of_xid, Over, stage, Rising}
+use Rattle.board_rows.specs.Board.{Record, Does, TakesBack, Commits, RollsBack, DeedAt, thread_of, scn_of, xid_of, stands, of_xid, Over, stage, Rising}
 use Rattle.board_rows.specs.Rows.{deeds_in, commit_of, logged}
 use Rattle.board_rows.specs.Events.{put}
 use Rattle.board_rows.specs.Sound.{Follows}
@@ -44,26 +44,26 @@ entered-swap a b differ (d ∷ commits) = here (is_before a d) (is_before b d) r
     here false false ad bd ih = both (is_before a b) refl ad bd
 
 -- a commit's record is on the disk before as after
-abbrev SameDurable : (ℕ → ℕ) → (ℕ → ℕ) → Rec → Type 0
+abbrev SameDurable : (ℕ → ℕ) → (ℕ → ℕ) → Record → Type 0
 SameDurable old now (Commits c x) = leb c (now x.seg) ≡ leb c (old x.seg)
 SameDurable old now _ = Unit {0}
 
-logged-same : (old now : ℕ → ℕ) (recs : List Rec) → AllByRecursion (SameDurable old now) recs → logged now recs ≡ logged old recs
+logged-same : (old now : ℕ → ℕ) (recs : List Record) → AllByRecursion (SameDurable old now) recs → logged now recs ≡ logged old recs
 logged-same old now [] h = refl
 logged-same old now (Commits c x ∷ recs) h = rw (h.0, logged-same old now recs h.1) refl
-logged-same old now (Did c x seq d ∷ recs) h = logged-same old now recs h.1
-logged-same old now (Back i c x seq row ∷ recs) h = logged-same old now recs h.1
-logged-same old now (Rolls i c x ∷ recs) h = logged-same old now recs h.1
+logged-same old now (Does c x seq d ∷ recs) h = logged-same old now recs h.1
+logged-same old now (TakesBack i c x seq row ∷ recs) h = logged-same old now recs h.1
+logged-same old now (RollsBack i c x ∷ recs) h = logged-same old now recs h.1
 
-module _ (durable : ℕ → ℕ) (r : Rec) (new : durable (thread_of r) < scn_of r) where
+module _ (durable : ℕ → ℕ) (r : Record) (new : durable (thread_of r) < scn_of r) where
   abbrev now : ℕ → ℕ
   now = put durable (thread_of r) (scn_of r)
 
   -- of the other records none becomes durable
-  same-durable : (o : Rec) → (o ≡ r → ⊥) → IsPlaced (durable (thread_of r)) r o → SameDurable durable now o
-  same-durable (Did c x seq d) other h = tt
-  same-durable (Back i c x seq row) other h = tt
-  same-durable (Rolls i c x) other h = tt
+  same-durable : (o : Record) → (o ≡ r → ⊥) → IsPlaced (durable (thread_of r)) r o → SameDurable durable now o
+  same-durable (Does c x seq d) other h = tt
+  same-durable (TakesBack i c x seq row) other h = tt
+  same-durable (RollsBack i c x) other h = tt
   same-durable (Commits c x) other h = here (thread_of r == x.seg) refl
     where
       here : (t : Bool) → (thread_of r == x.seg) ≡ t → leb c (cond t (scn_of r) (durable x.seg)) ≡ leb c (durable x.seg)
@@ -78,17 +78,17 @@ module _ (durable : ℕ → ℕ) (r : Rec) (new : durable (thread_of r) < scn_of
             ]
           ]
 
-  pub logged-quiet : (recs : List Rec) → AllByRecursion (IsPlaced (durable (thread_of r)) r) recs → ((e : ℕ) (y : Xid) → Commits e y ≡ r → ⊥) → logged now recs ≡ logged durable recs
+  pub logged-quiet : (recs : List Record) → AllByRecursion (IsPlaced (durable (thread_of r)) r) recs → ((e : ℕ) (y : Xid) → Commits e y ≡ r → ⊥) → logged now recs ≡ logged durable recs
   logged-quiet recs placed never = logged-same durable now recs (all_map (IsPlaced (durable (thread_of r)) r) (SameDurable durable now) recs one placed)
     where
-      one : (o : Rec) → IsPlaced (durable (thread_of r)) r o → SameDurable durable now o
+      one : (o : Record) → IsPlaced (durable (thread_of r)) r o → SameDurable durable now o
       one (Commits c x) h = same-durable (Commits c x) (never c x) h
-      one (Did c x seq d) h = tt
-      one (Back i c x seq row) h = tt
-      one (Rolls i c x) h = tt
+      one (Does c x seq d) h = tt
+      one (TakesBack i c x seq row) h = tt
+      one (RollsBack i c x) h = tt
 
 -- after its commit nothing changes of a transaction
-pub stands-over : (c : ℕ) (x : Xid) (newer there : List Rec) → Follows (newer ++ Commits c x ∷ there) → (stage x (newer ++ Commits c x ∷ there) ≡ Over (Some c)) × (of_xid x (stands (newer ++ Commits c x ∷ there)) ≡ of_xid x (stands there))
+pub stands-over : (c : ℕ) (x : Xid) (newer there : List Record) → Follows (newer ++ Commits c x ∷ there) → (stage x (newer ++ Commits c x ∷ there) ≡ Over (Some c)) × (of_xid x (stands (newer ++ Commits c x ∷ there)) ≡ of_xid x (stands there))
 stands-over c x [] there f = (rw (same_xid-refl x) refl, refl)
 stands-over c x (o ∷ newer) there f = here (same_xid x (xid_of o)) refl (stands-over c x newer there f.1)
   where
@@ -102,7 +102,7 @@ module _ (durable : ℕ → ℕ) (c : ℕ) (x : Xid) (new : durable x.seg < c) w
   now2 = put durable x.seg c
 
   -- the commit that becomes durable enters the history
-  pub logged-commit : (newer there : List Rec) → Rising (newer ++ Commits c x ∷ there) → AllByRecursion (λ o. thread_of o ≡ x.seg → scn_of o ≤ durable x.seg) there
+  pub logged-commit : (newer there : List Record) → Rising (newer ++ Commits c x ∷ there) → AllByRecursion (λ o. thread_of o ≡ x.seg → scn_of o ≤ durable x.seg) there
       → logged now2 (newer ++ Commits c x ∷ there) ≡ entered (commit_of c x there) (logged durable (newer ++ Commits c x ∷ there))
   logged-commit [] there rising first =
       let on : leb c (put durable x.seg c x.seg) ≡ true = (let at_c = put-here durable x.seg c in grind (arith, nat_tests, at_c)) in
@@ -110,13 +110,13 @@ module _ (durable : ℕ → ℕ) (c : ℕ) (x : Xid) (new : durable x.seg < c) w
       rw (on, off) (ap (entered (commit_of c x there)) (logged-same durable now2 there (all_map (λ o. thread_of o ≡ x.seg → scn_of o ≤ durable x.seg) (SameDurable durable now2) there (λ o h. same-durable durable (Commits c x) new o (λ e. (let le = h (ap thread_of e) in let same = ap scn_of e in omega (arith, le, same, new))) (λ e. inl (h e))) first)))
   logged-commit (o ∷ newer) there rising first = here o rising.0 (logged-commit newer there rising.1 first)
     where
-      rest : List Rec
+      rest : List Record
       rest = newer ++ Commits c x ∷ there
 
-      here : (o : Rec) → AllByRecursion (λ p. thread_of p ≡ thread_of o → scn_of p < scn_of o) rest → logged now2 rest ≡ entered (commit_of c x there) (logged durable rest) → logged now2 (o ∷ rest) ≡ entered (commit_of c x there) (logged durable (o ∷ rest))
-      here (Did d y seq deed) above ih = ih
-      here (Back j d y seq row) above ih = ih
-      here (Rolls j d y) above ih = ih
+      here : (o : Record) → AllByRecursion (λ p. thread_of p ≡ thread_of o → scn_of p < scn_of o) rest → logged now2 rest ≡ entered (commit_of c x there) (logged durable rest) → logged now2 (o ∷ rest) ≡ entered (commit_of c x there) (logged durable (o ∷ rest))
+      here (Does d y seq deed) above ih = ih
+      here (TakesBack j d y seq row) above ih = ih
+      here (RollsBack j d y) above ih = ih
       here (Commits d y) above ih =
           let up = (all_append (λ p. thread_of p ≡ y.seg → scn_of p < d) newer (Commits c x ∷ there) above).1.0 in
           let same = same-durable durable (Commits c x) new (Commits d y) (λ e. (let lt = up (sym (ap thread_of e)) in let eq = ap scn_of e in omega (arith, lt, eq))) (λ e. inr (inr (up (sym e)))) in
@@ -128,11 +128,11 @@ module _ (durable : ℕ → ℕ) (c : ℕ) (x : Xid) (new : durable x.seg < c) w
 
 -- a loss leaves what the logs tell, where the records of a transaction with a durable commit are all kept
 module _ (i kept : ℕ) (durable : ℕ → ℕ) (lasts : durable i ≤ kept) (P : Xid → Type 0) where
-  abbrev pub IsTold : Rec → Type 0
+  abbrev pub IsTold : Record → Type 0
   IsTold (Commits c x) = c ≤ durable x.seg → P x
   IsTold _ = Unit {0}
 
-  pub logged-loses : (recs : List Rec) → ((x : Xid) → P x → AllKept i kept x recs) → AllByRecursion IsTold recs → logged durable (filter (Kept i kept) recs) ≡ logged durable recs
+  pub logged-loses : (recs : List Record) → ((x : Xid) → P x → AllKept i kept x recs) → AllByRecursion IsTold recs → logged durable (filter (Kept i kept) recs) ≡ logged durable recs
   logged-loses [] whole told = refl
   logged-loses (r ∷ recs) whole told = here r (Kept i kept r) refl told.0 (λ x p. (whole x p).1) (logged-loses recs (λ x p. (whole x p).1) told.1)
     where
@@ -141,17 +141,17 @@ module _ (i kept : ℕ) (durable : ℕ → ℕ) (lasts : durable i ≤ kept) (P 
       entered-same c x false e p all ih = ih
       entered-same c x true e p all ih =
           let mods = of_xid-kept i kept x recs (all x (p (grind (arith, nat_tests, e)))) in
-          ap (λ (ms : List Mod). entered (record { commit_scn = c; inst = x.seg; xid = x; changes = changes_of (deeds_in ms) }) (logged durable (filter (Kept i kept) recs))) mods
+          ap (λ (ms : List DeedAt). entered (record { commit_scn = c; inst = x.seg; xid = x; changes = changes_of (deeds_in ms) }) (logged durable (filter (Kept i kept) recs))) mods
           ∙ ap (entered (commit_of c x recs)) ih
 
-      here : (r : Rec) (t : Bool) → Kept i kept r ≡ t → IsTold r → ((x : Xid) → P x → AllKept i kept x recs) → logged durable (filter (Kept i kept) recs) ≡ logged durable recs
+      here : (r : Record) (t : Bool) → Kept i kept r ≡ t → IsTold r → ((x : Xid) → P x → AllKept i kept x recs) → logged durable (filter (Kept i kept) recs) ≡ logged durable recs
           → logged durable (cond t (r ∷ filter (Kept i kept) recs) (filter (Kept i kept) recs)) ≡ logged durable (r ∷ recs)
-      here (Did c x seq d) true e p all ih = ih
-      here (Did c x seq d) false e p all ih = ih
-      here (Back j c x seq row) true e p all ih = ih
-      here (Back j c x seq row) false e p all ih = ih
-      here (Rolls j c x) true e p all ih = ih
-      here (Rolls j c x) false e p all ih = ih
+      here (Does c x seq d) true e p all ih = ih
+      here (Does c x seq d) false e p all ih = ih
+      here (TakesBack j c x seq row) true e p all ih = ih
+      here (TakesBack j c x seq row) false e p all ih = ih
+      here (RollsBack j c x) true e p all ih = ih
+      here (RollsBack j c x) false e p all ih = ih
       here (Commits c x) true e p all ih = entered-same c x (leb c (durable x.seg)) refl p all ih
       here (Commits c x) false e p all ih =
           let gone = lost-is i kept (Commits c x) e in

@@ -10,7 +10,7 @@ use Rattle.journal.specs.declared.deeds.Deed.TheVariants.{Changes, Locks}
 use Rattle.journal.specs.Standing.{row_of, changes_of}
 use Rattle.journal.specs.History.{value_by}
 use Rattle.journal.specs.Good.{Replays}
-use Rattle.board_rows.specs.Board.{Rec, Did, Back, Commits, Rolls, Mod, xid_of, touches, is_that, without, stands_after, stands, EachSuffix}
+use Rattle.board_rows.specs.Board.{Record, Does, TakesBack, Commits, RollsBack, DeedAt, xid_of, touches, is_that, without, stands_after, stands, EachSuffix}
 use Rattle.board_rows.specs.Rows.{FreeUnder, on, shown, on_row, deeds_in, IsOver, Ordered}
 use Rattle.board_rows.specs.Events.{is_kept, AreNear}
 use Rattle.board_rows.proofs.Shown.{all_map, clash, that-is, shown-later}
@@ -19,10 +19,10 @@ use Rattle.board_rows.proofs.Owns.{under-on, under-from}
 use Rattle.board_rows.proofs.Losses.{KeepsUnder, all_filter, Kept}
 
 -- what stands on a row
-abbrev pub mods_on : ℕ → List Mod → List Mod
+abbrev pub mods_on : ℕ → List DeedAt → List DeedAt
 mods_on k mods = filter (on k) mods
 
-without-other : (k : ℕ) (x : Xid) (seq row : ℕ) (mods : List Mod) → (row == k) ≡ false → mods_on k (without x seq row mods) ≡ mods_on k mods
+without-other : (k : ℕ) (x : Xid) (seq row : ℕ) (mods : List DeedAt) → (row == k) ≡ false → mods_on k (without x seq row mods) ≡ mods_on k mods
 without-other k x seq row [] h = refl
 without-other k x seq row (m ∷ mods) h = here (is_that x seq row m) refl (without-other k x seq row mods h)
   where
@@ -30,7 +30,7 @@ without-other k x seq row (m ∷ mods) h = here (is_that x seq row m) refl (with
     here true e ih = let off : on k m ≡ false = rw (sym (that-is x seq row m e).1) h in rw off refl
     here false e ih = ap (λ ms. cond (on k m) (m ∷ ms) ms) ih
 
-without-on : (k : ℕ) (x : Xid) (seq row : ℕ) (mods : List Mod) → (row == k) ≡ true → mods_on k (without x seq row mods) ≡ without x seq row (mods_on k mods)
+without-on : (k : ℕ) (x : Xid) (seq row : ℕ) (mods : List DeedAt) → (row == k) ≡ true → mods_on k (without x seq row mods) ≡ without x seq row (mods_on k mods)
 without-on k x seq row [] h = refl
 without-on k x seq row (m ∷ mods) h = here (is_that x seq row m) (on k m) refl refl (without-on k x seq row mods h)
   where
@@ -41,24 +41,24 @@ without-on k x seq row (m ∷ mods) h = here (is_that x seq row m) (on k m) refl
     here false false e f ih = rw f ih
 
 -- a record goes by what stands on its row, and leaves other rows
-after-same : (k : ℕ) (r : Rec) (xs ys : List Mod) → mods_on k xs ≡ mods_on k ys → mods_on k (stands_after r xs) ≡ mods_on k (stands_after r ys)
-after-same k (Did c x seq d) xs ys e = ap (λ (ms : List Mod). cond (row_of d == k) (record { xid = x; seq = seq; scn = c; deed = d } ∷ ms) ms) e
+after-same : (k : ℕ) (r : Record) (xs ys : List DeedAt) → mods_on k xs ≡ mods_on k ys → mods_on k (stands_after r xs) ≡ mods_on k (stands_after r ys)
+after-same k (Does c x seq d) xs ys e = ap (λ (ms : List DeedAt). cond (row_of d == k) (record { xid = x; seq = seq; scn = c; deed = d } ∷ ms) ms) e
 after-same k (Commits c x) xs ys e = e
-after-same k (Rolls j c x) xs ys e = e
-after-same k (Back j c x seq row) xs ys e = here (row == k) refl
+after-same k (RollsBack j c x) xs ys e = e
+after-same k (TakesBack j c x seq row) xs ys e = here (row == k) refl
   where
     here : (t : Bool) → (row == k) ≡ t → mods_on k (without x seq row xs) ≡ mods_on k (without x seq row ys)
     here false f = without-other k x seq row xs f ∙ (e ∙ sym (without-other k x seq row ys f))
     here true f = without-on k x seq row xs f ∙ (ap (without x seq row) e ∙ sym (without-on k x seq row ys f))
 
-after-other : (k : ℕ) (r : Rec) (xs : List Mod) → touches k r ≡ false → mods_on k (stands_after r xs) ≡ mods_on k xs
-after-other k (Did c x seq d) xs e = rw e refl
+after-other : (k : ℕ) (r : Record) (xs : List DeedAt) → touches k r ≡ false → mods_on k (stands_after r xs) ≡ mods_on k xs
+after-other k (Does c x seq d) xs e = rw e refl
 after-other k (Commits c x) xs e = refl
-after-other k (Rolls j c x) xs e = refl
-after-other k (Back j c x seq row) xs e = without-other k x seq row xs e
+after-other k (RollsBack j c x) xs e = refl
+after-other k (TakesBack j c x seq row) xs e = without-other k x seq row xs e
 
 -- order, replay and what is shown go by rows
-Ordered-on : (k : ℕ) (committed : Xid → Option ℕ) (mods : List Mod) → Ordered committed mods → Ordered committed (mods_on k mods)
+Ordered-on : (k : ℕ) (committed : Xid → Option ℕ) (mods : List DeedAt) → Ordered committed mods → Ordered committed (mods_on k mods)
 Ordered-on k committed [] h = tt
 Ordered-on k committed (m ∷ mods) h = here (on k m) (Ordered-on k committed mods h.1)
   where
@@ -66,7 +66,7 @@ Ordered-on k committed (m ∷ mods) h = here (on k m) (Ordered-on k committed mo
     here true ih = (all_map (λ o. (on k o ≡ true) × IsOver committed m o) (IsOver committed m) (mods_on k mods) (λ o h. h.1) (all_filter (IsOver committed m) (on k) mods h.0), ih)
     here false ih = ih
 
-Ordered-from : (committed : Xid → Option ℕ) (mods : List Mod) → ((k : ℕ) → Ordered committed (mods_on k mods)) → Ordered committed mods
+Ordered-from : (committed : Xid → Option ℕ) (mods : List DeedAt) → ((k : ℕ) → Ordered committed (mods_on k mods)) → Ordered committed mods
 Ordered-from committed [] h = tt
 Ordered-from committed (m ∷ mods) h = (head, Ordered-from committed mods (λ k. tail k (on k m) (h k)))
   where
@@ -74,7 +74,7 @@ Ordered-from committed (m ∷ mods) h = (head, Ordered-from committed mods (λ k
     tail k true g = g.1
     tail k false g = g
 
-    all : (os : List Mod) → AllByRecursion (IsOver committed m) (mods_on (row_of m.deed) os) → AllByRecursion (IsOver committed m) os
+    all : (os : List DeedAt) → AllByRecursion (IsOver committed m) (mods_on (row_of m.deed) os) → AllByRecursion (IsOver committed m) os
     all [] g = tt
     all (o ∷ os) g = here (on (row_of m.deed) o) refl g (λ g. all os g)
       where
@@ -108,7 +108,7 @@ Replays-from (change ∷ older) h = (head (h change.row), Replays-from older (λ
     head : Replays (on_row change.row (change ∷ older)) → change.found ≡ value_by older change.row
     head g = first (change.row == change.row) (eq-eqb change.row change.row refl) g ∙ value-on_row change.row older
 
-on_row-mods : (k : ℕ) (mods : List Mod) → on_row k (changes_of (deeds_in mods)) ≡ changes_of (deeds_in (mods_on k mods))
+on_row-mods : (k : ℕ) (mods : List DeedAt) → on_row k (changes_of (deeds_in mods)) ≡ changes_of (deeds_in (mods_on k mods))
 on_row-mods k [] = refl
 on_row-mods k (m ∷ mods) = here m.deed (row_of m.deed == k) refl (on_row-mods k mods)
   where
@@ -119,7 +119,7 @@ on_row-mods k (m ∷ mods) = here m.deed (row_of m.deed == k) refl (on_row-mods 
     here (Locks row) true e ih = ih
     here (Locks row) false e ih = ih
 
-shown-on : (k : ℕ) (test : Xid → Bool) (mods : List Mod) → shown k test (mods_on k mods) ≡ shown k test mods
+shown-on : (k : ℕ) (test : Xid → Bool) (mods : List DeedAt) → shown k test (mods_on k mods) ≡ shown k test mods
 shown-on k test [] = refl
 shown-on k test (m ∷ mods) = here (on k m) refl (shown-on k test mods)
   where
@@ -128,12 +128,12 @@ shown-on k test (m ∷ mods) = here (on k m) refl (shown-on k test mods)
     here false e ih = ih
 
 -- under a record that is kept all of its row is kept
-near-row : (i kept k : ℕ) (r : Rec) (recs : List Rec) → touches k r ≡ true → AllByRecursion (λ o. AreNear r o → is_kept i kept o ≡ true) recs → AllByRecursion (λ o. touches k o ≡ true → is_kept i kept o ≡ true) recs
+near-row : (i kept k : ℕ) (r : Record) (recs : List Record) → touches k r ≡ true → AllByRecursion (λ o. AreNear r o → is_kept i kept o ≡ true) recs → AllByRecursion (λ o. touches k o ≡ true → is_kept i kept o ≡ true) recs
 near-row i kept k r recs t h = all_map (λ o. AreNear r o → is_kept i kept o ≡ true) (λ o. touches k o ≡ true → is_kept i kept o ≡ true) recs (λ o f u. f (inl (k, t, u))) h
 
 module _ (i kept : ℕ) where
   -- a row of which every record is kept
-  row-kept : (k : ℕ) (recs : List Rec) → AllByRecursion (λ o. touches k o ≡ true → is_kept i kept o ≡ true) recs → mods_on k (stands (filter (Kept i kept) recs)) ≡ mods_on k (stands recs)
+  row-kept : (k : ℕ) (recs : List Record) → AllByRecursion (λ o. touches k o ≡ true → is_kept i kept o ≡ true) recs → mods_on k (stands (filter (Kept i kept) recs)) ≡ mods_on k (stands recs)
   row-kept k [] h = refl
   row-kept k (r ∷ recs) h = here (Kept i kept r) refl (touches k r) refl (row-kept k recs h.1)
     where
@@ -143,18 +143,18 @@ module _ (i kept : ℕ) where
       here false e true f ih = clash (Kept i kept r) (h.0 f) e
 
   -- each row is as it was on an earlier board
-  row-before : (P : List Rec → Type 0) (k : ℕ) (recs : List Rec) → KeepsUnder i kept recs → EachSuffix P recs → (older : List Rec) × P older × (mods_on k (stands (filter (Kept i kept) recs)) ≡ mods_on k (stands older))
+  row-before : (P : List Record → Type 0) (k : ℕ) (recs : List Record) → KeepsUnder i kept recs → EachSuffix P recs → (older : List Record) × P older × (mods_on k (stands (filter (Kept i kept) recs)) ≡ mods_on k (stands older))
   row-before P k [] l h = ([], h, refl)
   row-before P k (r ∷ recs) l h = here (Kept i kept r) refl (touches k r) refl (row-before P k recs l.1 h.1)
     where
-      here : (t : Bool) → Kept i kept r ≡ t → (u : Bool) → touches k r ≡ u → (older : List Rec) × P older × (mods_on k (stands (filter (Kept i kept) recs)) ≡ mods_on k (stands older))
-          → (older : List Rec) × P older × (mods_on k (stands (cond t (r ∷ filter (Kept i kept) recs) (filter (Kept i kept) recs))) ≡ mods_on k (stands older))
+      here : (t : Bool) → Kept i kept r ≡ t → (u : Bool) → touches k r ≡ u → (older : List Record) × P older × (mods_on k (stands (filter (Kept i kept) recs)) ≡ mods_on k (stands older))
+          → (older : List Record) × P older × (mods_on k (stands (cond t (r ∷ filter (Kept i kept) recs) (filter (Kept i kept) recs))) ≡ mods_on k (stands older))
       here false e u f ih = ih
       here true e false f ih = (ih.0, ih.1, after-other k r (stands (filter (Kept i kept) recs)) f ∙ ih.2)
       here true e true f ih = (r ∷ recs, h.0, after-same k r (stands (filter (Kept i kept) recs)) (stands recs) (row-kept k recs (near-row i kept k r recs f (l.0 e))))
 
   -- earlier boards of what is left
-  suffix-kept : (P Q : List Rec → Type 0) → ((recs : List Rec) → KeepsUnder i kept recs → EachSuffix P recs → Q (filter (Kept i kept) recs)) → (recs : List Rec) → KeepsUnder i kept recs → EachSuffix P recs → EachSuffix Q (filter (Kept i kept) recs)
+  suffix-kept : (P Q : List Record → Type 0) → ((recs : List Record) → KeepsUnder i kept recs → EachSuffix P recs → Q (filter (Kept i kept) recs)) → (recs : List Record) → KeepsUnder i kept recs → EachSuffix P recs → EachSuffix Q (filter (Kept i kept) recs)
   suffix-kept P Q f [] l h = f [] l h
   suffix-kept P Q f (r ∷ recs) l h = here (Kept i kept r) (f (r ∷ recs) l h) (suffix-kept P Q f recs l.1 h.1)
     where
@@ -163,11 +163,11 @@ module _ (i kept : ℕ) where
       here false q ih = ih
 
   -- what is seen of a row is as before, where nothing that vanishes is seen
-  pub shown-kept : (k : ℕ) (test : Xid → Bool) (recs : List Rec) → KeepsUnder i kept recs → AllByRecursion (λ r. is_kept i kept r ≡ false → touches k r ≡ true → test (xid_of r) ≡ false) recs → shown k test (stands (filter (Kept i kept) recs)) ≡ shown k test (stands recs)
+  pub shown-kept : (k : ℕ) (test : Xid → Bool) (recs : List Record) → KeepsUnder i kept recs → AllByRecursion (λ r. is_kept i kept r ≡ false → touches k r ≡ true → test (xid_of r) ≡ false) recs → shown k test (stands (filter (Kept i kept) recs)) ≡ shown k test (stands recs)
   shown-kept k test [] l h = refl
   shown-kept k test (r ∷ recs) l h = here (Kept i kept r) refl (touches k r) refl (shown-kept k test recs l.1 h.1)
     where
-      by_mods : (xs ys : List Mod) → mods_on k xs ≡ mods_on k ys → shown k test xs ≡ shown k test ys
+      by_mods : (xs ys : List DeedAt) → mods_on k xs ≡ mods_on k ys → shown k test xs ≡ shown k test ys
       by_mods xs ys e = sym (shown-on k test xs) ∙ (ap (shown k test) e ∙ shown-on k test ys)
 
       here : (t : Bool) → Kept i kept r ≡ t → (u : Bool) → touches k r ≡ u → shown k test (stands (filter (Kept i kept) recs)) ≡ shown k test (stands recs) → shown k test (stands (cond t (r ∷ filter (Kept i kept) recs) (filter (Kept i kept) recs))) ≡ shown k test (stands (r ∷ recs))
@@ -178,16 +178,16 @@ module _ (i kept : ℕ) where
       here true e true f ih = by_mods (stands_after r (stands (filter (Kept i kept) recs))) (stands_after r (stands recs)) (after-same k r (stands (filter (Kept i kept) recs)) (stands recs) (row-kept k recs (near-row i kept k r recs f (l.0 e))))
 
   -- the order and the replay are kept
-  pub order-kept : (committed : Xid → Option ℕ) (recs : List Rec) → KeepsUnder i kept recs → EachSuffix (λ older. Ordered committed (stands older)) recs → EachSuffix (λ older. Ordered committed (stands older)) (filter (Kept i kept) recs)
+  pub order-kept : (committed : Xid → Option ℕ) (recs : List Record) → KeepsUnder i kept recs → EachSuffix (λ older. Ordered committed (stands older)) recs → EachSuffix (λ older. Ordered committed (stands older)) (filter (Kept i kept) recs)
   order-kept committed = suffix-kept (λ older. Ordered committed (stands older)) (λ older. Ordered committed (stands older)) (λ recs l h.
       Ordered-from committed (stands (filter (Kept i kept) recs)) (λ k. (let b = row-before (λ older. Ordered committed (stands older)) k recs l h in subst (Ordered committed) (sym b.2) (Ordered-on k committed (stands b.0) b.1))))
 
-  pub replay-kept : (recs : List Rec) → KeepsUnder i kept recs → EachSuffix (λ older. Replays (changes_of (deeds_in (stands older)))) recs → EachSuffix (λ older. Replays (changes_of (deeds_in (stands older)))) (filter (Kept i kept) recs)
+  pub replay-kept : (recs : List Record) → KeepsUnder i kept recs → EachSuffix (λ older. Replays (changes_of (deeds_in (stands older)))) recs → EachSuffix (λ older. Replays (changes_of (deeds_in (stands older)))) (filter (Kept i kept) recs)
   replay-kept = suffix-kept (λ older. Replays (changes_of (deeds_in (stands older)))) (λ older. Replays (changes_of (deeds_in (stands older)))) (λ recs l h.
       Replays-from (changes_of (deeds_in (stands (filter (Kept i kept) recs)))) (λ k. (let b = row-before (λ older. Replays (changes_of (deeds_in (stands older)))) k recs l h in
-      let same = on_row-mods k (stands (filter (Kept i kept) recs)) ∙ (ap (λ (ms : List Mod). changes_of (deeds_in ms)) b.2 ∙ sym (on_row-mods k (stands b.0))) in
+      let same = on_row-mods k (stands (filter (Kept i kept) recs)) ∙ (ap (λ (ms : List DeedAt). changes_of (deeds_in ms)) b.2 ∙ sym (on_row-mods k (stands b.0))) in
       subst Replays (sym same) (Replays-on k (changes_of (deeds_in (stands b.0))) b.1))))
 
-  pub under-kept : (committed : Xid → Option ℕ) (s : ℕ) (x : Xid) (recs : List Rec) → KeepsUnder i kept recs → EachSuffix (λ older. FreeUnder committed s x (stands older)) recs → EachSuffix (λ older. FreeUnder committed s x (stands older)) (filter (Kept i kept) recs)
+  pub under-kept : (committed : Xid → Option ℕ) (s : ℕ) (x : Xid) (recs : List Record) → KeepsUnder i kept recs → EachSuffix (λ older. FreeUnder committed s x (stands older)) recs → EachSuffix (λ older. FreeUnder committed s x (stands older)) (filter (Kept i kept) recs)
   under-kept committed s x = suffix-kept (λ older. FreeUnder committed s x (stands older)) (λ older. FreeUnder committed s x (stands older)) (λ recs l h.
       under-from committed s x (stands (filter (Kept i kept) recs)) (λ k. (let b = row-before (λ older. FreeUnder committed s x (stands older)) k recs l h in subst (FreeUnder committed s x) (sym b.2) (under-on k committed s x (stands b.0) b.1))))

@@ -9,16 +9,16 @@ use Rattle.journal.specs.Past.{same_xid}
 use Rattle.journal.specs.declared.deeds.Change.{Change}
 use Rattle.journal.specs.declared.deeds.Deed.{Deed}
 use Rattle.journal.proofs.XidLemmas.{same_xid-true}
-use Rattle.board_rows.specs.Board.{Rec, Did, Back, Commits, Rolls, Mod, xid_of, stands, of_xid, Stage, Fresh, Active, Over, stage, begun, on_disk}
+use Rattle.board_rows.specs.Board.{Record, Does, TakesBack, Commits, RollsBack, DeedAt, xid_of, stands, of_xid, Stage, Fresh, Active, Over, stage, begun, on_disk}
 use Rattle.board_rows.specs.Rows.{deeds_in}
-use Rattle.board_rows.specs.Sound.{Txns, IsMarked, EndsBy, IsBelow, CanCommit, RecIsIn}
+use Rattle.board_rows.specs.Sound.{Txns, IsMarked, EndsBy, IsBelow, CanCommit, RecordIsIn}
 use Rattle.board_rows.proofs.Shown.{all_map, clash}
 use Rattle.board_rows.proofs.TxnSteps.{begun-all, begun-used}
 use Rattle.board_rows.proofs.Losses.{KeepsUnder, all_filter, fresh-none, unbegun-fresh, Kept, AllKept, kept-other, kept-low, stage-kept, of_xid-kept, own-other, begun-kept, over-kept, ended-whole, commit-whole, follows-kept}
 
-module _ {recs : List Rec} {durable : ℕ → ℕ} {stand : Xid → List Deed} {live : Xid → Bool} {mark : Xid → ℕ → List Change} {has_mark : Xid → ℕ → Bool} {committed : Xid → Option ℕ} {has_commit : ℕ → ℕ → Bool}
+module _ {recs : List Record} {durable : ℕ → ℕ} {stand : Xid → List Deed} {live : Xid → Bool} {mark : Xid → ℕ → List Change} {has_mark : Xid → ℕ → Bool} {committed : Xid → Option ℕ} {has_commit : ℕ → ℕ → Bool}
     (txns : Txns recs durable stand live mark has_mark committed has_commit) (i kept : ℕ) (lasts : durable i ≤ kept) (newest : KeepsUnder i kept recs) where
-  abbrev there : List Rec
+  abbrev there : List Record
   there = filter (Kept i kept) recs
 
   -- a commit on the disk
@@ -49,9 +49,9 @@ module _ {recs : List Rec} {durable : ℕ → ℕ} {stand : Xid → List Deed} {
 
   -- all records of an open transaction of another instance are kept
   pub live-kept : (y : Xid) → live y ≡ true → (y.seg == i) ≡ false → AllKept i kept y recs
-  live-kept y is off = all_map (RecIsIn recs live) (λ r. same_xid y (xid_of r) ≡ true → Kept i kept r ≡ true) recs one txns.records
+  live-kept y is off = all_map (RecordIsIn recs live) (λ r. same_xid y (xid_of r) ≡ true → Kept i kept r ≡ true) recs one txns.each_record
     where
-      one : (r : Rec) → RecIsIn recs live r → same_xid y (xid_of r) ≡ true → Kept i kept r ≡ true
+      one : (r : Record) → RecordIsIn recs live r → same_xid y (xid_of r) ≡ true → Kept i kept r ≡ true
       one r h e =
           let same : y ≡ xid_of r = same_xid-true y (xid_of r) e in
           let act : stage (xid_of r) recs ≡ Active = rw (sym same) ((txns.each y).active is) in
@@ -74,7 +74,7 @@ module _ {recs : List Rec} {durable : ℕ → ℕ} {stand : Xid → List Deed} {
   pub txns-loses : Txns there durable (λ y. cond (y.seg == i) [] (stand y)) (λ y. cond (y.seg == i) false (live y)) mark has_mark committed has_commit
   txns-loses = record {
     each = λ y. record { active = active y (y.seg == i) refl; stands = deeds y; marks = marks y; commits = commits y (stage y there) refl; rolled = rolled y };
-    records = all_map (λ r. (Kept i kept r ≡ true) × RecIsIn recs live r) (RecIsIn there (λ y. cond (y.seg == i) false (live y))) there (λ r h. record { ends = ends r h.0 h.1.ends; own = λ can. h.1.own (could (xid_of r) (stage (xid_of r) there) refl can) }) (all_filter (RecIsIn recs live) (Kept i kept) recs txns.records);
+    each_record = all_map (λ r. (Kept i kept r ≡ true) × RecordIsIn recs live r) (RecordIsIn there (λ y. cond (y.seg == i) false (live y))) there (λ r h. record { ends = ends r h.0 h.1.ends; own = λ can. h.1.own (could (xid_of r) (stage (xid_of r) there) refl can) }) (all_filter (RecordIsIn recs live) (Kept i kept) recs txns.each_record);
     follows = follows-kept i kept recs newest txns.follows;
     apart = txns.apart;
   }
@@ -88,18 +88,18 @@ module _ {recs : List Rec} {durable : ℕ → ℕ} {stand : Xid → List Deed} {
         where
           here : (t : Bool) → (y.seg == i) ≡ t → cond t false (live y) ≡ true → cond t [] (stand y) ≡ deeds_in (of_xid y (stands there))
           here true off l = clash false l refl
-          here false off l = (txns.each y).stands (inl l) ∙ ap (λ (ms : List Mod). deeds_in ms) (sym (of_xid-kept i kept y recs (live-kept y l off)))
-      deeds y (inr f) = here (y.seg == i) refl ∙ ap (λ (ms : List Mod). deeds_in ms) (sym (fresh-none y there f))
+          here false off l = (txns.each y).stands (inl l) ∙ ap (λ (ms : List DeedAt). deeds_in ms) (sym (of_xid-kept i kept y recs (live-kept y l off)))
+      deeds y (inr f) = here (y.seg == i) refl ∙ ap (λ (ms : List DeedAt). deeds_in ms) (sym (fresh-none y there f))
         where
           here : (t : Bool) → (y.seg == i) ≡ t → cond t [] (stand y) ≡ []
           here true off = refl
-          here false off = let before = fresh-before y off f in (txns.each y).stands (inr before) ∙ ap (λ (ms : List Mod). deeds_in ms) (fresh-none y recs before)
+          here false off = let before = fresh-before y off f in (txns.each y).stands (inr before) ∙ ap (λ (ms : List DeedAt). deeds_in ms) (fresh-none y recs before)
 
       marks : (y : Xid) (c : ℕ) → stage y there ≡ Over (Some c) → IsMarked (mark y c) (has_mark y c) (deeds_in (of_xid y (stands there)))
       marks y c e = let h = over-before y c e in rw (of_xid-kept i kept y recs h.1) ((txns.each y).marks c h.0)
 
       rolled : (y : Xid) → stage y there ≡ Over None → deeds_in (of_xid y (stands there)) ≡ []
-      rolled y e = ap (λ (ms : List Mod). deeds_in ms) (of_xid-kept i kept y recs (ended-whole i kept y None recs newest txns.follows e)) ∙ (txns.each y).rolled (over-kept i kept y None recs txns.follows e)
+      rolled y e = ap (λ (ms : List DeedAt). deeds_in ms) (of_xid-kept i kept y recs (ended-whole i kept y None recs newest txns.follows e)) ∙ (txns.each y).rolled (over-kept i kept y None recs txns.follows e)
 
       -- a commit that is gone wasn't on the disk
       gone : (y : Xid) (st : Stage) → stage y recs ≡ st → ((c : ℕ) → stage y there ≡ Over (Some c) → ⊥) → on_disk (durable y.seg) st ≡ None
@@ -126,10 +126,10 @@ module _ {recs : List Rec} {durable : ℕ → ℕ} {stand : Xid → List Deed} {
       below c y h (Over None) e = tt
       below c y h (Over (Some d)) e = rw (over-before y d e).0 at h
 
-      ends : (r : Rec) → Kept i kept r ≡ true → EndsBy (stage (xid_of r) recs) r → EndsBy (stage (xid_of r) there) r
-      ends (Did c y seq d) k h = below c y h (stage y there) refl
-      ends (Back j c y seq row) k h = below c y h (stage y there) refl
-      ends (Rolls j c y) k h = tt
+      ends : (r : Record) → Kept i kept r ≡ true → EndsBy (stage (xid_of r) recs) r → EndsBy (stage (xid_of r) there) r
+      ends (Does c y seq d) k h = below c y h (stage y there) refl
+      ends (TakesBack j c y seq row) k h = below c y h (stage y there) refl
+      ends (RollsBack j c y) k h = tt
       ends (Commits c y) k h = stage-kept i kept y recs (commit-kept y c h k) ∙ h
 
       could : (y : Xid) (st : Stage) → stage y there ≡ st → CanCommit (cond (y.seg == i) false (live y)) st → CanCommit (live y) (stage y recs)

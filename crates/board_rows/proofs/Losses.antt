@@ -7,9 +7,9 @@ use Rattle.std.proofs.lemmas.Bool.Decides.{nat_tests}
 use Rattle.base_types.specs.declared.names.Xid.{Xid}
 use Rattle.journal.specs.Past.{same_xid}
 use Rattle.journal.proofs.XidLemmas.{same_xid-refl, same_xid-true}
-use Rattle.board_rows.specs.Board.{Rec, Did, Back, Commits, Rolls, Mod, thread_of, scn_of, xid_of, is_that, without, stands_after, stands, of_xid, Stage, Fresh, Active, Over, stage, begun, Rising}
+use Rattle.board_rows.specs.Board.{Record, Does, TakesBack, Commits, RollsBack, DeedAt, thread_of, scn_of, xid_of, is_that, without, stands_after, stands, of_xid, Stage, Fresh, Active, Over, stage, begun, Rising}
 use Rattle.board_rows.specs.Events.{is_kept, AreNear, LosesNewest}
-use Rattle.board_rows.specs.Sound.{GoesOn, Follows}
+use Rattle.board_rows.specs.Sound.{MayFollow, Follows}
 use Rattle.board_rows.proofs.Shown.{all_map, all_of, clash, that-is}
 use Rattle.board_rows.proofs.RowSteps.{of_xid-without}
 use Rattle.board_rows.proofs.TxnSteps.{stops}
@@ -31,10 +31,10 @@ all_filter P test (x ∷ xs) h = here (test x) refl (all_filter P test xs h.1)
     here false e ih = ih
 
 -- nothing stands of a fresh transaction
-pub fresh-none : (x : Xid) (recs : List Rec) → stage x recs ≡ Fresh → of_xid x (stands recs) ≡ []
+pub fresh-none : (x : Xid) (recs : List Record) → stage x recs ≡ Fresh → of_xid x (stands recs) ≡ []
 fresh-none x recs e = go (stands recs) (all-used recs)
   where
-    go : (mods : List Mod) → AllByRecursion (λ m. stage m.xid recs ≡ Fresh → ⊥) mods → of_xid x mods ≡ []
+    go : (mods : List DeedAt) → AllByRecursion (λ m. stage m.xid recs ≡ Fresh → ⊥) mods → of_xid x mods ≡ []
     go [] h = refl
     go (m ∷ mods) h = here (same_xid x m.xid) refl (go mods h.1)
       where
@@ -43,7 +43,7 @@ fresh-none x recs e = go (stands recs) (all-used recs)
         here true f ih = absurd (h.0 (rw (sym (same_xid-true x m.xid f)) e))
 
 -- what hasn't begun is fresh
-pub unbegun-fresh : (y : Xid) (all recs : List Rec) → AllByRecursion (λ r. begun (xid_of r) all ≡ true) recs → begun y all ≡ false → stage y recs ≡ Fresh
+pub unbegun-fresh : (y : Xid) (all recs : List Record) → AllByRecursion (λ r. begun (xid_of r) all ≡ true) recs → begun y all ≡ false → stage y recs ≡ Fresh
 unbegun-fresh y all [] h off = refl
 unbegun-fresh y all (r ∷ recs) h off = here r h.0 (unbegun-fresh y all recs h.1 off)
   where
@@ -51,27 +51,27 @@ unbegun-fresh y all (r ∷ recs) h off = here r h.0 (unbegun-fresh y all recs h.
     by_test w st false e b ih = ih
     by_test w st true e b ih = clash (begun y all) (rw (same_xid-true y w e) b) off
 
-    here : (r : Rec) → begun (xid_of r) all ≡ true → stage y recs ≡ Fresh → stage y (r ∷ recs) ≡ Fresh
-    here (Did c w seq d) b ih = by_test w Active (same_xid y w) refl b ih
-    here (Back i c w seq row) b ih = ih
+    here : (r : Record) → begun (xid_of r) all ≡ true → stage y recs ≡ Fresh → stage y (r ∷ recs) ≡ Fresh
+    here (Does c w seq d) b ih = by_test w Active (same_xid y w) refl b ih
+    here (TakesBack i c w seq row) b ih = ih
     here (Commits c w) b ih = by_test w (Over (Some c)) (same_xid y w) refl b ih
-    here (Rolls i c w) b ih = by_test w (Over None) (same_xid y w) refl b ih
+    here (RollsBack i c w) b ih = by_test w (Over None) (same_xid y w) refl b ih
 
 -- a record of another changes nothing of a transaction
-pub after-of_xid : (x : Xid) (r : Rec) (mods : List Mod) → same_xid x (xid_of r) ≡ false → of_xid x (stands_after r mods) ≡ of_xid x mods
-after-of_xid x (Did c y seq d) mods e = rw e refl
-after-of_xid x (Back j c y seq row) mods e = of_xid-without x y seq row mods e
+pub after-of_xid : (x : Xid) (r : Record) (mods : List DeedAt) → same_xid x (xid_of r) ≡ false → of_xid x (stands_after r mods) ≡ of_xid x mods
+after-of_xid x (Does c y seq d) mods e = rw e refl
+after-of_xid x (TakesBack j c y seq row) mods e = of_xid-without x y seq row mods e
 after-of_xid x (Commits c y) mods e = refl
-after-of_xid x (Rolls j c y) mods e = refl
+after-of_xid x (RollsBack j c y) mods e = refl
 
-pub after-stage : (x : Xid) (r : Rec) (recs : List Rec) → same_xid x (xid_of r) ≡ false → stage x (r ∷ recs) ≡ stage x recs
-after-stage x (Did c y seq d) recs e = rw e refl
-after-stage x (Back j c y seq row) recs e = refl
+pub after-stage : (x : Xid) (r : Record) (recs : List Record) → same_xid x (xid_of r) ≡ false → stage x (r ∷ recs) ≡ stage x recs
+after-stage x (Does c y seq d) recs e = rw e refl
+after-stage x (TakesBack j c y seq row) recs e = refl
 after-stage x (Commits c y) recs e = rw e refl
-after-stage x (Rolls j c y) recs e = rw e refl
+after-stage x (RollsBack j c y) recs e = rw e refl
 
 -- a step back of x takes it from what stands of x
-pub of_xid-back : (x : Xid) (seq row : ℕ) (mods : List Mod) → of_xid x (without x seq row mods) ≡ without x seq row (of_xid x mods)
+pub of_xid-back : (x : Xid) (seq row : ℕ) (mods : List DeedAt) → of_xid x (without x seq row mods) ≡ without x seq row (of_xid x mods)
 of_xid-back x seq row [] = refl
 of_xid-back x seq row (m ∷ mods) = here (is_that x seq row m) (same_xid x m.xid) refl refl (of_xid-back x seq row mods)
   where
@@ -82,28 +82,28 @@ of_xid-back x seq row (m ∷ mods) = here (is_that x seq row m) (same_xid x m.xi
     here false false e f ih = rw f ih
 
 -- under a record that is kept, what is near it is kept
-abbrev pub KeepsUnder : ℕ → ℕ → List Rec → Type 0
+abbrev pub KeepsUnder : ℕ → ℕ → List Record → Type 0
 KeepsUnder i kept [] = Unit {0}
 KeepsUnder i kept (r ∷ older) = (is_kept i kept r ≡ true → AllByRecursion (λ o. AreNear r o → is_kept i kept o ≡ true) older) × KeepsUnder i kept older
 
 module _ (i kept : ℕ) where
-  abbrev pub Kept : Rec → Bool
+  abbrev pub Kept : Record → Bool
   Kept r = is_kept i kept r
 
-  pub kept-other : (r : Rec) → (thread_of r == i) ≡ false → Kept r ≡ true
+  pub kept-other : (r : Record) → (thread_of r == i) ≡ false → Kept r ≡ true
   kept-other r e = rw e refl
 
-  pub kept-low : (r : Rec) → scn_of r ≤ kept → Kept r ≡ true
+  pub kept-low : (r : Record) → scn_of r ≤ kept → Kept r ≡ true
   kept-low r le = here (thread_of r == i)
     where
       here : (t : Bool) → cond t (leb (scn_of r) kept) true ≡ true
       here true = grind (arith, nat_tests, le)
       here false = refl
 
-  pub kept-back : (r : Rec) → Kept r ≡ true → thread_of r ≡ i → scn_of r ≤ kept
+  pub kept-back : (r : Record) → Kept r ≡ true → thread_of r ≡ i → scn_of r ≤ kept
   kept-back r k e = let low : leb (scn_of r) kept ≡ true = rw (eq-eqb (thread_of r) i e) at k in grind (arith, nat_tests, low)
 
-  pub lost-is : (r : Rec) → Kept r ≡ false → (thread_of r ≡ i) × (kept < scn_of r)
+  pub lost-is : (r : Record) → Kept r ≡ false → (thread_of r ≡ i) × (kept < scn_of r)
   lost-is r h = here (thread_of r == i) refl h
     where
       here : (t : Bool) → (thread_of r == i) ≡ t → cond t (leb (scn_of r) kept) true ≡ false → (thread_of r ≡ i) × (kept < scn_of r)
@@ -111,14 +111,14 @@ module _ (i kept : ℕ) where
       here false e h = clash true refl h
 
   -- what is older in the thread of a record that is kept is kept
-  pub older-kept : (r : Rec) (recs : List Rec) → Kept r ≡ true → AllByRecursion (λ o. thread_of o ≡ thread_of r → scn_of o < scn_of r) recs → AllByRecursion (λ o. thread_of o ≡ thread_of r → Kept o ≡ true) recs
+  pub older-kept : (r : Record) (recs : List Record) → Kept r ≡ true → AllByRecursion (λ o. thread_of o ≡ thread_of r → scn_of o < scn_of r) recs → AllByRecursion (λ o. thread_of o ≡ thread_of r → Kept o ≡ true) recs
   older-kept r recs k h = all_map (λ o. thread_of o ≡ thread_of r → scn_of o < scn_of r) (λ o. thread_of o ≡ thread_of r → Kept o ≡ true) recs (λ o f e. one o (f e) e (thread_of o == i) refl) h
     where
-      one : (o : Rec) → scn_of o < scn_of r → thread_of o ≡ thread_of r → (t : Bool) → (thread_of o == i) ≡ t → Kept o ≡ true
+      one : (o : Record) → scn_of o < scn_of r → thread_of o ≡ thread_of r → (t : Bool) → (thread_of o == i) ≡ t → Kept o ≡ true
       one o lt e false f = kept-other o f
       one o lt e true f = let low = kept-back r k (sym e ∙ eqb-true (thread_of o) i f) in kept-low o (omega arith)
 
-  pub keeps-under : (recs : List Rec) → Rising recs → LosesNewest i kept recs → KeepsUnder i kept recs
+  pub keeps-under : (recs : List Record) → Rising recs → LosesNewest i kept recs → KeepsUnder i kept recs
   keeps-under [] rising l = tt
   keeps-under (r ∷ recs) rising l = ((λ k. here k (thread_of r == i) refl), keeps-under recs rising.1 l.1)
     where
@@ -126,66 +126,66 @@ module _ (i kept : ℕ) where
       here k false e = l.0 (λ f. clash (thread_of r == i) (eq-eqb (thread_of r) i f) e)
       here k true e = all_map (λ o. thread_of o ≡ thread_of r → Kept o ≡ true) (λ o. AreNear r o → Kept o ≡ true) recs (λ o f _. one o f (thread_of o == i) refl) (older-kept r recs k rising.0)
         where
-          one : (o : Rec) → (thread_of o ≡ thread_of r → Kept o ≡ true) → (t : Bool) → (thread_of o == i) ≡ t → Kept o ≡ true
+          one : (o : Record) → (thread_of o ≡ thread_of r → Kept o ≡ true) → (t : Bool) → (thread_of o == i) ≡ t → Kept o ≡ true
           one o f false g = kept-other o g
           one o f true g = f (eqb-true (thread_of o) i g ∙ sym (eqb-true (thread_of r) i e))
 
   -- all records of a transaction are kept
-  abbrev pub AllKept : Xid → List Rec → Type 0
+  abbrev pub AllKept : Xid → List Record → Type 0
   AllKept x recs = AllByRecursion (λ r. same_xid x (xid_of r) ≡ true → Kept r ≡ true) recs
 
-  pub stage-kept : (x : Xid) (recs : List Rec) → AllKept x recs → stage x (filter Kept recs) ≡ stage x recs
+  pub stage-kept : (x : Xid) (recs : List Record) → AllKept x recs → stage x (filter Kept recs) ≡ stage x recs
   stage-kept x [] h = refl
   stage-kept x (r ∷ recs) h = here (Kept r) refl (stage-kept x recs h.1)
     where
-      after : (r : Rec) → (same_xid x (xid_of r) ≡ true → Kept r ≡ true) → Kept r ≡ false → stage x (r ∷ recs) ≡ stage x recs
-      after (Did c y seq d) f off = go (same_xid x y) f
+      after : (r : Record) → (same_xid x (xid_of r) ≡ true → Kept r ≡ true) → Kept r ≡ false → stage x (r ∷ recs) ≡ stage x recs
+      after (Does c y seq d) f off = go (same_xid x y) f
         where
-          go : (t : Bool) → (t ≡ true → Kept (Did c y seq d) ≡ true) → cond t Active (stage x recs) ≡ stage x recs
-          go true f = clash (Kept (Did c y seq d)) (f refl) off
+          go : (t : Bool) → (t ≡ true → Kept (Does c y seq d) ≡ true) → cond t Active (stage x recs) ≡ stage x recs
+          go true f = clash (Kept (Does c y seq d)) (f refl) off
           go false f = refl
-      after (Back j c y seq row) f off = refl
+      after (TakesBack j c y seq row) f off = refl
       after (Commits c y) f off = go (same_xid x y) f
         where
           go : (t : Bool) → (t ≡ true → Kept (Commits c y) ≡ true) → cond t (Over (Some c)) (stage x recs) ≡ stage x recs
           go true f = clash (Kept (Commits c y)) (f refl) off
           go false f = refl
-      after (Rolls j c y) f off = go (same_xid x y) f
+      after (RollsBack j c y) f off = go (same_xid x y) f
         where
-          go : (t : Bool) → (t ≡ true → Kept (Rolls j c y) ≡ true) → cond t (Over None) (stage x recs) ≡ stage x recs
-          go true f = clash (Kept (Rolls j c y)) (f refl) off
+          go : (t : Bool) → (t ≡ true → Kept (RollsBack j c y) ≡ true) → cond t (Over None) (stage x recs) ≡ stage x recs
+          go true f = clash (Kept (RollsBack j c y)) (f refl) off
           go false f = refl
 
-      same : (r : Rec) → stage x (filter Kept recs) ≡ stage x recs → stage x (r ∷ filter Kept recs) ≡ stage x (r ∷ recs)
-      same (Did c y seq d) ih = ap (λ (st : Stage). cond (same_xid x y) Active st) ih
-      same (Back j c y seq row) ih = ih
+      same : (r : Record) → stage x (filter Kept recs) ≡ stage x recs → stage x (r ∷ filter Kept recs) ≡ stage x (r ∷ recs)
+      same (Does c y seq d) ih = ap (λ (st : Stage). cond (same_xid x y) Active st) ih
+      same (TakesBack j c y seq row) ih = ih
       same (Commits c y) ih = ap (λ (st : Stage). cond (same_xid x y) (Over (Some c)) st) ih
-      same (Rolls j c y) ih = ap (λ (st : Stage). cond (same_xid x y) (Over None) st) ih
+      same (RollsBack j c y) ih = ap (λ (st : Stage). cond (same_xid x y) (Over None) st) ih
 
       here : (t : Bool) → Kept r ≡ t → stage x (filter Kept recs) ≡ stage x recs → stage x (cond t (r ∷ filter Kept recs) (filter Kept recs)) ≡ stage x (r ∷ recs)
       here true e ih = same r ih
       here false e ih = ih ∙ sym (after r h.0 e)
 
-  pub of_xid-kept : (x : Xid) (recs : List Rec) → AllKept x recs → of_xid x (stands (filter Kept recs)) ≡ of_xid x (stands recs)
+  pub of_xid-kept : (x : Xid) (recs : List Record) → AllKept x recs → of_xid x (stands (filter Kept recs)) ≡ of_xid x (stands recs)
   of_xid-kept x [] h = refl
   of_xid-kept x (r ∷ recs) h = here (Kept r) refl (of_xid-kept x recs h.1)
     where
       -- what a record of another does to what stands of x
-      other : (r : Rec) (mods : List Mod) → same_xid x (xid_of r) ≡ false → of_xid x (stands_after r mods) ≡ of_xid x mods
-      other (Did c y seq d) mods e = rw e refl
-      other (Back j c y seq row) mods e = of_xid-without x y seq row mods e
+      other : (r : Record) (mods : List DeedAt) → same_xid x (xid_of r) ≡ false → of_xid x (stands_after r mods) ≡ of_xid x mods
+      other (Does c y seq d) mods e = rw e refl
+      other (TakesBack j c y seq row) mods e = of_xid-without x y seq row mods e
       other (Commits c y) mods e = refl
-      other (Rolls j c y) mods e = refl
+      other (RollsBack j c y) mods e = refl
 
-      same : (r : Rec) (xs ys : List Mod) → of_xid x xs ≡ of_xid x ys → of_xid x (stands_after r xs) ≡ of_xid x (stands_after r ys)
-      same (Did c y seq d) xs ys ih = ap (λ (ms : List Mod). cond (same_xid x y) (record { xid = y; seq = seq; scn = c; deed = d } ∷ ms) ms) ih
-      same (Back j c y seq row) xs ys ih = go (same_xid x y) refl
+      same : (r : Record) (xs ys : List DeedAt) → of_xid x xs ≡ of_xid x ys → of_xid x (stands_after r xs) ≡ of_xid x (stands_after r ys)
+      same (Does c y seq d) xs ys ih = ap (λ (ms : List DeedAt). cond (same_xid x y) (record { xid = y; seq = seq; scn = c; deed = d } ∷ ms) ms) ih
+      same (TakesBack j c y seq row) xs ys ih = go (same_xid x y) refl
         where
           go : (t : Bool) → same_xid x y ≡ t → of_xid x (without y seq row xs) ≡ of_xid x (without y seq row ys)
           go false e = of_xid-without x y seq row xs e ∙ (ih ∙ sym (of_xid-without x y seq row ys e))
           go true e = let is : x ≡ y = same_xid-true x y e in rw (sym is) (of_xid-back x seq row xs ∙ (ap (without x seq row) ih ∙ sym (of_xid-back x seq row ys)))
       same (Commits c y) xs ys ih = ih
-      same (Rolls j c y) xs ys ih = ih
+      same (RollsBack j c y) xs ys ih = ih
 
       not_of : Kept r ≡ false → (t : Bool) → same_xid x (xid_of r) ≡ t → t ≡ false
       not_of off false e = refl
@@ -196,36 +196,36 @@ module _ (i kept : ℕ) where
       here false e ih = ih ∙ sym (other r (stands recs) (not_of e (same_xid x (xid_of r)) refl))
 
   -- the records of a transaction in its own thread are kept
-  abbrev pub OwnKept : Xid → List Rec → Type 0
+  abbrev pub OwnKept : Xid → List Record → Type 0
   OwnKept x recs = AllByRecursion (λ r. same_xid x (xid_of r) ≡ true → thread_of r ≡ x.seg → Kept r ≡ true) recs
 
-  pub own-kept : (x : Xid) (recs : List Rec) → AllKept x recs → OwnKept x recs
+  pub own-kept : (x : Xid) (recs : List Record) → AllKept x recs → OwnKept x recs
   own-kept x recs h = all_map (λ r. same_xid x (xid_of r) ≡ true → Kept r ≡ true) (λ r. same_xid x (xid_of r) ≡ true → thread_of r ≡ x.seg → Kept r ≡ true) recs (λ r f e _. f e) h
 
-  pub own-other : (x : Xid) (recs : List Rec) → (x.seg == i) ≡ false → OwnKept x recs
+  pub own-other : (x : Xid) (recs : List Record) → (x.seg == i) ≡ false → OwnKept x recs
   own-other x recs off = all_of (λ r. same_xid x (xid_of r) ≡ true → thread_of r ≡ x.seg → Kept r ≡ true) recs (λ r e t. kept-other r (rw t off))
 
   -- then it has begun as before
-  pub begun-kept : (x : Xid) (recs : List Rec) → OwnKept x recs → begun x (filter Kept recs) ≡ begun x recs
+  pub begun-kept : (x : Xid) (recs : List Record) → OwnKept x recs → begun x (filter Kept recs) ≡ begun x recs
   begun-kept x [] h = refl
   begun-kept x (r ∷ recs) h = here r (Kept r) refl h.0 (begun-kept x recs h.1)
     where
-      here : (r : Rec) (t : Bool) → Kept r ≡ t → (same_xid x (xid_of r) ≡ true → thread_of r ≡ x.seg → Kept r ≡ true) → begun x (filter Kept recs) ≡ begun x recs → begun x (cond t (r ∷ filter Kept recs) (filter Kept recs)) ≡ begun x (r ∷ recs)
-      here (Did c y seq d) true e own ih = ap (λ (b : Bool). cond (same_xid x y) true b) ih
-      here (Did c y seq d) false e own ih = ih ∙ lost (same_xid x y) refl
+      here : (r : Record) (t : Bool) → Kept r ≡ t → (same_xid x (xid_of r) ≡ true → thread_of r ≡ x.seg → Kept r ≡ true) → begun x (filter Kept recs) ≡ begun x recs → begun x (cond t (r ∷ filter Kept recs) (filter Kept recs)) ≡ begun x (r ∷ recs)
+      here (Does c y seq d) true e own ih = ap (λ (b : Bool). cond (same_xid x y) true b) ih
+      here (Does c y seq d) false e own ih = ih ∙ lost (same_xid x y) refl
         where
           lost : (t : Bool) → same_xid x y ≡ t → begun x recs ≡ cond t true (begun x recs)
           lost false f = refl
-          lost true f = clash (Kept (Did c y seq d)) (own f (ap (λ (w : Xid). w.seg) (sym (same_xid-true x y f)))) e
-      here (Back j c y seq row) true e own ih = ih
-      here (Back j c y seq row) false e own ih = ih
+          lost true f = clash (Kept (Does c y seq d)) (own f (ap (λ (w : Xid). w.seg) (sym (same_xid-true x y f)))) e
+      here (TakesBack j c y seq row) true e own ih = ih
+      here (TakesBack j c y seq row) false e own ih = ih
       here (Commits c y) true e own ih = ih
       here (Commits c y) false e own ih = ih
-      here (Rolls j c y) true e own ih = ih
-      here (Rolls j c y) false e own ih = ih
+      here (RollsBack j c y) true e own ih = ih
+      here (RollsBack j c y) false e own ih = ih
 
   -- an end that is there after the loss was there before
-  pub over-kept : (x : Xid) (o : Option ℕ) (recs : List Rec) → Follows recs → stage x (filter Kept recs) ≡ Over o → stage x recs ≡ Over o
+  pub over-kept : (x : Xid) (o : Option ℕ) (recs : List Record) → Follows recs → stage x (filter Kept recs) ≡ Over o → stage x recs ≡ Over o
   over-kept x o [] f e = (cc)
   over-kept x o (r ∷ recs) f e = here (Kept r) e (over-kept x o recs f.1)
     where
@@ -233,32 +233,32 @@ module _ (i kept : ℕ) where
       by_test y st old now true e ih g = g
       by_test y st old now false e ih g = ih g
 
-      same : (r : Rec) → (stage x (filter Kept recs) ≡ Over o → stage x recs ≡ Over o) → stage x (r ∷ filter Kept recs) ≡ Over o → stage x (r ∷ recs) ≡ Over o
-      same (Did c y seq d) ih e = by_test y Active (stage x recs) (stage x (filter Kept recs)) (same_xid x y) refl ih e
-      same (Back j c y seq row) ih e = ih e
+      same : (r : Record) → (stage x (filter Kept recs) ≡ Over o → stage x recs ≡ Over o) → stage x (r ∷ filter Kept recs) ≡ Over o → stage x (r ∷ recs) ≡ Over o
+      same (Does c y seq d) ih e = by_test y Active (stage x recs) (stage x (filter Kept recs)) (same_xid x y) refl ih e
+      same (TakesBack j c y seq row) ih e = ih e
       same (Commits c y) ih e = by_test y (Over (Some c)) (stage x recs) (stage x (filter Kept recs)) (same_xid x y) refl ih e
-      same (Rolls j c y) ih e = by_test y (Over None) (stage x recs) (stage x (filter Kept recs)) (same_xid x y) refl ih e
+      same (RollsBack j c y) ih e = by_test y (Over None) (stage x recs) (stage x (filter Kept recs)) (same_xid x y) refl ih e
 
       not_of : stage x recs ≡ Over o → (t : Bool) → same_xid x (xid_of r) ≡ t → t ≡ false
       not_of g false e = refl
       not_of g true e = absurd (stops r (stage (xid_of r) recs) o f.0 (rw (sym (same_xid-true x (xid_of r) e)) g))
 
-      other : (r : Rec) → same_xid x (xid_of r) ≡ false → stage x (r ∷ recs) ≡ stage x recs
-      other (Did c y seq d) e = rw e refl
-      other (Back j c y seq row) e = refl
+      other : (r : Record) → same_xid x (xid_of r) ≡ false → stage x (r ∷ recs) ≡ stage x recs
+      other (Does c y seq d) e = rw e refl
+      other (TakesBack j c y seq row) e = refl
       other (Commits c y) e = rw e refl
-      other (Rolls j c y) e = rw e refl
+      other (RollsBack j c y) e = rw e refl
 
       here : (t : Bool) → stage x (cond t (r ∷ filter Kept recs) (filter Kept recs)) ≡ Over o → (stage x (filter Kept recs) ≡ Over o → stage x recs ≡ Over o) → stage x (r ∷ recs) ≡ Over o
       here true e ih = same r ih e
       here false e ih = let g = ih e in other r (not_of g (same_xid x (xid_of r)) refl) ∙ g
 
   -- under a record that is kept all of its transaction is kept
-  near-xid : (x : Xid) (r : Rec) (recs : List Rec) → same_xid x (xid_of r) ≡ true → AllByRecursion (λ o. AreNear r o → Kept o ≡ true) recs → AllKept x recs
+  near-xid : (x : Xid) (r : Record) (recs : List Record) → same_xid x (xid_of r) ≡ true → AllByRecursion (λ o. AreNear r o → Kept o ≡ true) recs → AllKept x recs
   near-xid x r recs e h = all_map (λ o. AreNear r o → Kept o ≡ true) (λ o. same_xid x (xid_of o) ≡ true → Kept o ≡ true) recs (λ o f g. f (inr (rw (sym (same_xid-true x (xid_of r) e)) g))) h
 
   -- all records of a transaction whose end is kept are kept
-  pub ended-whole : (x : Xid) (o : Option ℕ) (recs : List Rec) → KeepsUnder i kept recs → Follows recs → stage x (filter Kept recs) ≡ Over o → AllKept x recs
+  pub ended-whole : (x : Xid) (o : Option ℕ) (recs : List Record) → KeepsUnder i kept recs → Follows recs → stage x (filter Kept recs) ≡ Over o → AllKept x recs
   ended-whole x o [] l f e = tt
   ended-whole x o (r ∷ recs) l f e = here (Kept r) refl e (ended-whole x o recs l.1 f.1)
     where
@@ -270,33 +270,33 @@ module _ (i kept : ℕ) where
       here true k e ih = of_x k (same_xid x (xid_of r)) refl e ih
       here false k e ih = ((λ g. absurd (stops r (stage (xid_of r) recs) o f.0 (rw (sym (same_xid-true x (xid_of r) g)) (over-kept x o recs f.1 e)))), ih e)
 
-  pub commit-whole : (x : Xid) (c : ℕ) (recs : List Rec) → KeepsUnder i kept recs → Follows recs → stage x recs ≡ Over (Some c) → Kept (Commits c x) ≡ true → AllKept x recs
+  pub commit-whole : (x : Xid) (c : ℕ) (recs : List Record) → KeepsUnder i kept recs → Follows recs → stage x recs ≡ Over (Some c) → Kept (Commits c x) ≡ true → AllKept x recs
   commit-whole x c [] l f e k = tt
   commit-whole x c (r ∷ recs) l f e k = here r (same_xid x (xid_of r)) refl e f.0 l.0 (λ g. commit-whole x c recs l.1 f.1 g k)
     where
-      here : (r : Rec) (t : Bool) → same_xid x (xid_of r) ≡ t → stage x (r ∷ recs) ≡ Over (Some c) → GoesOn r (stage (xid_of r) recs) → (Kept r ≡ true → AllByRecursion (λ o. AreNear r o → Kept o ≡ true) recs) → (stage x recs ≡ Over (Some c) → AllKept x recs) → (same_xid x (xid_of r) ≡ true → Kept r ≡ true) × AllKept x recs
+      here : (r : Record) (t : Bool) → same_xid x (xid_of r) ≡ t → stage x (r ∷ recs) ≡ Over (Some c) → MayFollow r (stage (xid_of r) recs) → (Kept r ≡ true → AllByRecursion (λ o. AreNear r o → Kept o ≡ true) recs) → (stage x recs ≡ Over (Some c) → AllKept x recs) → (same_xid x (xid_of r) ≡ true → Kept r ≡ true) × AllKept x recs
       here r false g e goes near ih = ((λ y. clash (same_xid x (xid_of r)) y g), ih (sym (after-stage x r recs g) ∙ e))
-      here (Did d y seq deed) true g e goes near ih = absurd (let bad : Active ≡ Over (Some c) = rw g at e in cc)
-      here (Back j d y seq row) true g e goes near ih = absurd (stops (Back j d y seq row) (stage y recs) (Some c) goes (rw (sym (same_xid-true x y g)) e))
-      here (Rolls j d y) true g e goes near ih = absurd (let over : ◌≡◌ {A = Stage} (Over None) (Over (Some c)) = rw g at e in let bad : ◌≡◌ {A = Option ℕ} None (Some c) = cc in cc)
+      here (Does d y seq deed) true g e goes near ih = absurd (let bad : Active ≡ Over (Some c) = rw g at e in cc)
+      here (TakesBack j d y seq row) true g e goes near ih = absurd (stops (TakesBack j d y seq row) (stage y recs) (Some c) goes (rw (sym (same_xid-true x y g)) e))
+      here (RollsBack j d y) true g e goes near ih = absurd (let over : ◌≡◌ {A = Stage} (Over None) (Over (Some c)) = rw g at e in let bad : ◌≡◌ {A = Option ℕ} None (Some c) = cc in cc)
       here (Commits d y) true g e goes near ih =
           let over : ◌≡◌ {A = Stage} (Over (Some d)) (Over (Some c)) = rw g at e in
           let same : c ≡ d = cc in
           let here_kept : Kept (Commits d y) ≡ true = rw (sym same, sym (same_xid-true x y g)) k in
           ((λ _. here_kept), near-xid x (Commits d y) recs g (near here_kept))
 
-  pub follows-kept : (recs : List Rec) → KeepsUnder i kept recs → Follows recs → Follows (filter Kept recs)
+  pub follows-kept : (recs : List Record) → KeepsUnder i kept recs → Follows recs → Follows (filter Kept recs)
   follows-kept [] l f = tt
   follows-kept (r ∷ recs) l f = here (Kept r) refl (follows-kept recs l.1 f.1)
     where
-      goes : Kept r ≡ true → GoesOn r (stage (xid_of r) (filter Kept recs))
+      goes : Kept r ≡ true → MayFollow r (stage (xid_of r) (filter Kept recs))
       goes k = rw (stage-kept (xid_of r) recs (near-xid (xid_of r) r recs (same_xid-refl (xid_of r)) (l.0 k))) f.0
 
       here : (t : Bool) → Kept r ≡ t → Follows (filter Kept recs) → Follows (cond t (r ∷ filter Kept recs) (filter Kept recs))
       here true k ih = (goes k, ih)
       here false k ih = ih
 
-  pub rising-kept : (recs : List Rec) → Rising recs → Rising (filter Kept recs)
+  pub rising-kept : (recs : List Record) → Rising recs → Rising (filter Kept recs)
   rising-kept [] f = tt
   rising-kept (r ∷ recs) f = here (Kept r) (rising-kept recs f.1)
     where

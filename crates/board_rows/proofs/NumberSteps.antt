@@ -7,15 +7,15 @@ use Rattle.base_types.specs.declared.names.Xid.{Xid}
 use Rattle.journal.specs.Past.{same_xid}
 use Rattle.journal.specs.declared.deeds.Deed.{Deed}
 use Rattle.journal.proofs.XidLemmas.{both_true, same_xid-true}
-use Rattle.board_rows.specs.Board.{Rec, Did, Back, Commits, Rolls, thread_of, scn_of, begun, Rising}
-use Rattle.board_rows.specs.Numbers.{did_in, IsNumbered, Numbered, IsWithin, wrap_in, xid_at, Numbers}
+use Rattle.board_rows.specs.Board.{Record, Does, TakesBack, Commits, RollsBack, thread_of, scn_of, begun, Rising}
+use Rattle.board_rows.specs.Numbers.{recorded_in, IsNumbered, Numbered, IsWithin, wrap_in, xid_at, Numbers}
 use Rattle.board_rows.proofs.Shown.{all_of, clash}
 use Rattle.board_rows.proofs.Losses.{older-kept, Kept, kept-other, own-other, begun-kept}
 
 -- a transaction that has begun is within the wraps of its slot
-wrap-begun : (x : Xid) (recs : List Rec) → begun x recs ≡ true → x.wrap ≤ wrap_in x.seg x.slot recs
+wrap-begun : (x : Xid) (recs : List Record) → begun x recs ≡ true → x.wrap ≤ wrap_in x.seg x.slot recs
 wrap-begun x [] h = clash false h refl
-wrap-begun x (Did c y seq d ∷ recs) h = here (same_xid x y) refl h (wrap-begun x recs)
+wrap-begun x (Does c y seq d ∷ recs) h = here (same_xid x y) refl h (wrap-begun x recs)
   where
     up : (t : Bool) (w : ℕ) → x.wrap ≤ w → x.wrap ≤ cond t (max y.wrap w) w
     up true w le = omega (arith, le)
@@ -27,18 +27,18 @@ wrap-begun x (Did c y seq d ∷ recs) h = here (same_xid x y) refl h (wrap-begun
         let parts = both_true (x.seg == y.seg && x.slot == y.slot) (x.wrap == y.wrap) e in
         let same : x.wrap ≡ y.wrap = eqb-true x.wrap y.wrap parts.1 in
         rw parts.0 (omega (arith, same))
-wrap-begun x (Back i c y seq row ∷ recs) h = wrap-begun x recs h
+wrap-begun x (TakesBack i c y seq row ∷ recs) h = wrap-begun x recs h
 wrap-begun x (Commits c y ∷ recs) h = wrap-begun x recs h
-wrap-begun x (Rolls i c y ∷ recs) h = wrap-begun x recs h
+wrap-begun x (RollsBack i c y ∷ recs) h = wrap-begun x recs h
 
 -- one more transaction has ended, which has begun
-pub ended-more : (recs : List Rec) (y x : Xid) (t : Bool) → same_xid y x ≡ t → (has : Bool) → begun x recs ≡ true → (has ≡ true → begun y recs ≡ true) → cond t true has ≡ true → begun y recs ≡ true
+pub ended-more : (recs : List Record) (y x : Xid) (t : Bool) → same_xid y x ≡ t → (has : Bool) → begun x recs ≡ true → (has ≡ true → begun y recs ≡ true) → cond t true has ≡ true → begun y recs ≡ true
 ended-more recs y x true e has is old f = rw (same_xid-true y x e) is
 ended-more recs y x false e has is old f = old f
 
-module _ {recs : List Rec} {told since : ℕ → List (Xid × Deed)} {has ends : Xid → Bool} (h : Numbers recs told since has ends) where
-  pub numbers-changes : (c : ℕ) (x : Xid) (seq : ℕ) (deed : Deed) → seq ≡ suc (length (did_in x.seg recs)) → (begun x recs ≡ true) ⊎ (x.wrap ≡ suc (wrap_in x.seg x.slot recs))
-      → Numbers (Did c x seq deed ∷ recs) (λ i. cond (i == x.seg) ((x, deed) ∷ told i) (told i)) (λ i. cond (i == x.seg) ((x, deed) ∷ since i) (since i)) (λ y. same_xid y x || has y) ends
+module _ {recs : List Record} {told since : ℕ → List (Xid × Deed)} {has ends : Xid → Bool} (h : Numbers recs told since has ends) where
+  pub numbers-changes : (c : ℕ) (x : Xid) (seq : ℕ) (deed : Deed) → seq ≡ suc (length (recorded_in x.seg recs)) → (begun x recs ≡ true) ⊎ (x.wrap ≡ suc (wrap_in x.seg x.slot recs))
+      → Numbers (Does c x seq deed ∷ recs) (λ i. cond (i == x.seg) ((x, deed) ∷ told i) (told i)) (λ i. cond (i == x.seg) ((x, deed) ∷ since i) (since i)) (λ y. same_xid y x || has y) ends
   numbers-changes c x seq deed next mine = record {
     numbered = (next, h.numbered);
     newest = λ i. newest i (i == x.seg);
@@ -51,11 +51,11 @@ module _ {recs : List Rec} {told since : ℕ → List (Xid × Deed)} {has ends :
       ended true e = refl
       ended false e = e
 
-      newest : (i : ℕ) (t : Bool) → (rest : List (Xid × Deed)) × (cond t ((x, deed) ∷ did_in i recs) (did_in i recs) ≡ cond t ((x, deed) ∷ since i) (since i) ++ rest)
+      newest : (i : ℕ) (t : Bool) → (rest : List (Xid × Deed)) × (cond t ((x, deed) ∷ recorded_in i recs) (recorded_in i recs) ≡ cond t ((x, deed) ∷ since i) (since i) ++ rest)
       newest i true = let n = h.newest i in (n.0, ap (λ ds. (x, deed) ∷ ds) n.1)
       newest i false = h.newest i
 
-      within : (i : ℕ) (t : Bool) → IsWithin (cond t ((x, deed) ∷ did_in i recs) (did_in i recs)) (cond t ((x, deed) ∷ told i) (told i))
+      within : (i : ℕ) (t : Bool) → IsWithin (cond t ((x, deed) ∷ recorded_in i recs) (recorded_in i recs)) (cond t ((x, deed) ∷ told i) (told i))
       within i true = inl (refl, h.within i)
       within i false = h.within i
 
@@ -79,34 +79,34 @@ module _ {recs : List Rec} {told since : ℕ → List (Xid × Deed)} {has ends :
               ]
 
 -- all deeds of a segment are kept
-did-kept : (i kept j : ℕ) (recs : List Rec) → AllByRecursion (λ o. thread_of o ≡ j → Kept i kept o ≡ true) recs → did_in j (filter (Kept i kept) recs) ≡ did_in j recs
+did-kept : (i kept j : ℕ) (recs : List Record) → AllByRecursion (λ o. thread_of o ≡ j → Kept i kept o ≡ true) recs → recorded_in j (filter (Kept i kept) recs) ≡ recorded_in j recs
 did-kept i kept j [] h = refl
 did-kept i kept j (r ∷ recs) h = here r (Kept i kept r) refl h.0 (did-kept i kept j recs h.1)
   where
-    here : (r : Rec) (t : Bool) → Kept i kept r ≡ t → (thread_of r ≡ j → Kept i kept r ≡ true) → did_in j (filter (Kept i kept) recs) ≡ did_in j recs → did_in j (cond t (r ∷ filter (Kept i kept) recs) (filter (Kept i kept) recs)) ≡ did_in j (r ∷ recs)
-    here (Did c x seq d) true e f ih = ap (λ ds. cond (j == x.seg) ((x, d) ∷ ds) ds) ih
-    here (Did c x seq d) false e f ih = ih ∙ sym (other (j == x.seg) refl)
+    here : (r : Record) (t : Bool) → Kept i kept r ≡ t → (thread_of r ≡ j → Kept i kept r ≡ true) → recorded_in j (filter (Kept i kept) recs) ≡ recorded_in j recs → recorded_in j (cond t (r ∷ filter (Kept i kept) recs) (filter (Kept i kept) recs)) ≡ recorded_in j (r ∷ recs)
+    here (Does c x seq d) true e f ih = ap (λ ds. cond (j == x.seg) ((x, d) ∷ ds) ds) ih
+    here (Does c x seq d) false e f ih = ih ∙ sym (other (j == x.seg) refl)
       where
-        other : (t : Bool) → (j == x.seg) ≡ t → cond t ((x, d) ∷ did_in j recs) (did_in j recs) ≡ did_in j recs
+        other : (t : Bool) → (j == x.seg) ≡ t → cond t ((x, d) ∷ recorded_in j recs) (recorded_in j recs) ≡ recorded_in j recs
         other false g = refl
-        other true g = clash (Kept i kept (Did c x seq d)) (f (sym (eqb-true j x.seg g))) e
-    here (Back k c x seq row) true e f ih = ih
-    here (Back k c x seq row) false e f ih = ih
+        other true g = clash (Kept i kept (Does c x seq d)) (f (sym (eqb-true j x.seg g))) e
+    here (TakesBack k c x seq row) true e f ih = ih
+    here (TakesBack k c x seq row) false e f ih = ih
     here (Commits c x) true e f ih = ih
     here (Commits c x) false e f ih = ih
-    here (Rolls k c x) true e f ih = ih
-    here (Rolls k c x) false e f ih = ih
+    here (RollsBack k c x) true e f ih = ih
+    here (RollsBack k c x) false e f ih = ih
 
 module _ (i kept : ℕ) where
-  numbered-kept : (recs : List Rec) → Rising recs → Numbered recs → Numbered (filter (Kept i kept) recs)
+  numbered-kept : (recs : List Record) → Rising recs → Numbered recs → Numbered (filter (Kept i kept) recs)
   numbered-kept [] rising h = tt
   numbered-kept (r ∷ recs) rising h = here (Kept i kept r) refl (numbered-kept recs rising.1 h.1)
     where
-      same : (r : Rec) → Kept i kept r ≡ true → AllByRecursion (λ o. thread_of o ≡ thread_of r → scn_of o < scn_of r) recs → IsNumbered r recs → IsNumbered r (filter (Kept i kept) recs)
-      same (Did c x seq d) k above n = n ∙ ap (λ (ds : List (Xid × Deed)). suc (length ds)) (sym (did-kept i kept x.seg recs (older-kept i kept (Did c x seq d) recs k above)))
-      same (Back j c x seq row) k above n = tt
+      same : (r : Record) → Kept i kept r ≡ true → AllByRecursion (λ o. thread_of o ≡ thread_of r → scn_of o < scn_of r) recs → IsNumbered r recs → IsNumbered r (filter (Kept i kept) recs)
+      same (Does c x seq d) k above n = n ∙ ap (λ (ds : List (Xid × Deed)). suc (length ds)) (sym (did-kept i kept x.seg recs (older-kept i kept (Does c x seq d) recs k above)))
+      same (TakesBack j c x seq row) k above n = tt
       same (Commits c x) k above n = tt
-      same (Rolls j c x) k above n = tt
+      same (RollsBack j c x) k above n = tt
 
       here : (t : Bool) → Kept i kept r ≡ t → Numbered (filter (Kept i kept) recs) → Numbered (cond t (r ∷ filter (Kept i kept) recs) (filter (Kept i kept) recs))
       here true e ih = (same r e rising.0 h.0, ih)
@@ -118,30 +118,30 @@ module _ (i kept : ℕ) where
   within-tail x (z ∷ xs) (y ∷ ys) (inl h) = inr h.1
   within-tail x (z ∷ xs) (y ∷ ys) (inr h) = inr (within-tail x (z ∷ xs) ys h)
 
-  within-kept : (j : ℕ) (recs : List Rec) (ys : List (Xid × Deed)) → Rising recs → IsWithin (did_in j recs) ys → IsWithin (did_in j (filter (Kept i kept) recs)) ys
+  within-kept : (j : ℕ) (recs : List Record) (ys : List (Xid × Deed)) → Rising recs → IsWithin (recorded_in j recs) ys → IsWithin (recorded_in j (filter (Kept i kept) recs)) ys
   within-kept j [] ys rising h = h
   within-kept j (r ∷ recs) ys rising h = here r (Kept i kept r) refl rising.0 h (λ g. within-kept j recs ys rising.1 g)
     where
-      here : (r : Rec) (t : Bool) → Kept i kept r ≡ t → AllByRecursion (λ o. thread_of o ≡ thread_of r → scn_of o < scn_of r) recs → IsWithin (did_in j (r ∷ recs)) ys → (IsWithin (did_in j recs) ys → IsWithin (did_in j (filter (Kept i kept) recs)) ys)
-          → IsWithin (did_in j (cond t (r ∷ filter (Kept i kept) recs) (filter (Kept i kept) recs))) ys
-      here (Did c x seq d) t e above h ih = go (j == x.seg) refl t e h
+      here : (r : Record) (t : Bool) → Kept i kept r ≡ t → AllByRecursion (λ o. thread_of o ≡ thread_of r → scn_of o < scn_of r) recs → IsWithin (recorded_in j (r ∷ recs)) ys → (IsWithin (recorded_in j recs) ys → IsWithin (recorded_in j (filter (Kept i kept) recs)) ys)
+          → IsWithin (recorded_in j (cond t (r ∷ filter (Kept i kept) recs) (filter (Kept i kept) recs))) ys
+      here (Does c x seq d) t e above h ih = go (j == x.seg) refl t e h
         where
-          go : (u : Bool) → (j == x.seg) ≡ u → (t : Bool) → Kept i kept (Did c x seq d) ≡ t → IsWithin (cond u ((x, d) ∷ did_in j recs) (did_in j recs)) ys → IsWithin (did_in j (cond t (Did c x seq d ∷ filter (Kept i kept) recs) (filter (Kept i kept) recs))) ys
-          go true f false e h = ih (within-tail (x, d) (did_in j recs) ys h)
+          go : (u : Bool) → (j == x.seg) ≡ u → (t : Bool) → Kept i kept (Does c x seq d) ≡ t → IsWithin (cond u ((x, d) ∷ recorded_in j recs) (recorded_in j recs)) ys → IsWithin (recorded_in j (cond t (Does c x seq d ∷ filter (Kept i kept) recs) (filter (Kept i kept) recs))) ys
+          go true f false e h = ih (within-tail (x, d) (recorded_in j recs) ys h)
           go false f false e h = ih h
           go false f true e h = rw f (ih h)
           go true f true e h =
               let at_j : j ≡ x.seg = eqb-true j x.seg f in
-              let same : did_in j (filter (Kept i kept) recs) ≡ did_in j recs = rw at_j (did-kept i kept x.seg recs (older-kept i kept (Did c x seq d) recs e above)) in
+              let same : recorded_in j (filter (Kept i kept) recs) ≡ recorded_in j recs = rw at_j (did-kept i kept x.seg recs (older-kept i kept (Does c x seq d) recs e above)) in
               rw f (subst (λ (ds : List (Xid × Deed)). IsWithin ((x, d) ∷ ds) ys) (sym same) h)
-      here (Back k c x seq row) true e above h ih = ih h
-      here (Back k c x seq row) false e above h ih = ih h
+      here (TakesBack k c x seq row) true e above h ih = ih h
+      here (TakesBack k c x seq row) false e above h ih = ih h
       here (Commits c x) true e above h ih = ih h
       here (Commits c x) false e above h ih = ih h
-      here (Rolls k c x) true e above h ih = ih h
-      here (Rolls k c x) false e above h ih = ih h
+      here (RollsBack k c x) true e above h ih = ih h
+      here (RollsBack k c x) false e above h ih = ih h
 
-  wrap-kept : (seg slot : ℕ) (recs : List Rec) → wrap_in seg slot (filter (Kept i kept) recs) ≤ wrap_in seg slot recs
+  wrap-kept : (seg slot : ℕ) (recs : List Record) → wrap_in seg slot (filter (Kept i kept) recs) ≤ wrap_in seg slot recs
   wrap-kept seg slot [] = omega arith
   wrap-kept seg slot (r ∷ recs) = here r (Kept i kept r) (wrap-kept seg slot recs)
     where
@@ -153,17 +153,17 @@ module _ (i kept : ℕ) where
       up true w a b le = omega (arith, le)
       up false w a b le = le
 
-      here : (r : Rec) (t : Bool) → wrap_in seg slot (filter (Kept i kept) recs) ≤ wrap_in seg slot recs → wrap_in seg slot (cond t (r ∷ filter (Kept i kept) recs) (filter (Kept i kept) recs)) ≤ wrap_in seg slot (r ∷ recs)
-      here (Did c x seq d) true ih = both (seg == x.seg && slot == x.slot) x.wrap (wrap_in seg slot (filter (Kept i kept) recs)) (wrap_in seg slot recs) ih
-      here (Did c x seq d) false ih = up (seg == x.seg && slot == x.slot) x.wrap (wrap_in seg slot (filter (Kept i kept) recs)) (wrap_in seg slot recs) ih
-      here (Back j c x seq row) true ih = ih
-      here (Back j c x seq row) false ih = ih
+      here : (r : Record) (t : Bool) → wrap_in seg slot (filter (Kept i kept) recs) ≤ wrap_in seg slot recs → wrap_in seg slot (cond t (r ∷ filter (Kept i kept) recs) (filter (Kept i kept) recs)) ≤ wrap_in seg slot (r ∷ recs)
+      here (Does c x seq d) true ih = both (seg == x.seg && slot == x.slot) x.wrap (wrap_in seg slot (filter (Kept i kept) recs)) (wrap_in seg slot recs) ih
+      here (Does c x seq d) false ih = up (seg == x.seg && slot == x.slot) x.wrap (wrap_in seg slot (filter (Kept i kept) recs)) (wrap_in seg slot recs) ih
+      here (TakesBack j c x seq row) true ih = ih
+      here (TakesBack j c x seq row) false ih = ih
       here (Commits c x) true ih = ih
       here (Commits c x) false ih = ih
-      here (Rolls j c x) true ih = ih
-      here (Rolls j c x) false ih = ih
+      here (RollsBack j c x) true ih = ih
+      here (RollsBack j c x) false ih = ih
 
-  pub numbers-loses : {recs : List Rec} {told since : ℕ → List (Xid × Deed)} {has ends : Xid → Bool} → Numbers recs told since has ends → Rising recs → Numbers (filter (Kept i kept) recs) told (λ j. cond (j == i) [] (since j)) has (λ y. cond (y.seg == i) false (ends y))
+  pub numbers-loses : {recs : List Record} {told since : ℕ → List (Xid × Deed)} {has ends : Xid → Bool} → Numbers recs told since has ends → Rising recs → Numbers (filter (Kept i kept) recs) told (λ j. cond (j == i) [] (since j)) has (λ y. cond (y.seg == i) false (ends y))
   numbers-loses {recs} {told} {since} {has} {ends} h rising = record {
     numbered = numbered-kept recs rising h.numbered;
     newest = λ j. newest j (j == i) refl;
@@ -176,8 +176,8 @@ module _ (i kept : ℕ) where
       ended y true e f = clash false f refl
       ended y false e f = begun-kept i kept y recs (own-other i kept y recs e) ∙ h.ended y f
 
-      newest : (j : ℕ) (t : Bool) → (j == i) ≡ t → (rest : List (Xid × Deed)) × (did_in j (filter (Kept i kept) recs) ≡ cond t [] (since j) ++ rest)
-      newest j true e = (did_in j (filter (Kept i kept) recs), refl)
+      newest : (j : ℕ) (t : Bool) → (j == i) ≡ t → (rest : List (Xid × Deed)) × (recorded_in j (filter (Kept i kept) recs) ≡ cond t [] (since j) ++ rest)
+      newest j true e = (recorded_in j (filter (Kept i kept) recs), refl)
       newest j false e =
           let n = h.newest j in
           (n.0, did-kept i kept j recs (all_of (λ o. thread_of o ≡ j → Kept i kept o ≡ true) recs (λ o f. kept-other i kept o (rw f e))) ∙ n.1)

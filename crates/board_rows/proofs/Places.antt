@@ -7,36 +7,36 @@ use Rattle.std.proofs.lemmas.Bool.{eq-eqb, eqb-true}
 use Rattle.base_types.specs.declared.names.Xid.{Xid}
 use Rattle.journal.specs.Past.{same_xid}
 use Rattle.journal.proofs.XidLemmas.{same_xid-refl}
-use Rattle.board_rows.specs.Board.{Mod, without, is_that}
+use Rattle.board_rows.specs.Board.{DeedAt, without, is_that}
 use Rattle.board_rows.proofs.Shown.{clash, that-is}
 use Rattle.board_rows.proofs.Order.{no-commit, same_xid-sym}
 use Rattle.board_rows.proofs.RowSteps.{IsNewest}
 
-module _ {V : Type 0} (place : Mod → ℕ) (found what : Mod → V) (empty : V) where
+module _ {V : Type 0} (place : DeedAt → ℕ) (found what : DeedAt → V) (empty : V) where
   -- what a place has
-  abbrev pub at : ℕ → List Mod → V
+  abbrev pub at : ℕ → List DeedAt → V
   at p [] = empty
   at p (m ∷ mods) = cond (place m == p) (what m) (at p mods)
 
   -- under a deed stand, at its place, only deeds of its own transaction and of those that committed below it
-  abbrev pub IsOverAt : (Xid → Option ℕ) → Mod → Mod → Type 0
+  abbrev pub IsOverAt : (Xid → Option ℕ) → DeedAt → DeedAt → Type 0
   IsOverAt committed m o = (place o == place m) ≡ true → same_xid m.xid o.xid ≡ false → IsSomeAnd (committed o.xid) (λ c. c < m.scn)
 
-  abbrev pub OrderedAt : (Xid → Option ℕ) → List Mod → Type 0
+  abbrev pub OrderedAt : (Xid → Option ℕ) → List DeedAt → Type 0
   OrderedAt committed [] = Unit {0}
   OrderedAt committed (m ∷ mods) = AllByRecursion (IsOverAt committed m) mods × OrderedAt committed mods
 
   -- each deed found what stands under it
-  abbrev pub FoundAt : List Mod → Type 0
+  abbrev pub FoundAt : List DeedAt → Type 0
   FoundAt [] = Unit {0}
   FoundAt (m ∷ mods) = (found m ≡ at (place m) mods) × FoundAt mods
 
   -- the first that a step back names is elsewhere
-  abbrev Spares : Xid → ℕ → ℕ → ℕ → List Mod → Type 0
+  abbrev Spares : Xid → ℕ → ℕ → ℕ → List DeedAt → Type 0
   Spares x seq row p [] = Unit {0}
   Spares x seq row p (o ∷ os) = (is_that x seq row o ≡ true → (place o == p) ≡ false) × Spares x seq row p os
 
-  spares-under : (x : Xid) (seq row : ℕ) (committed : Xid → Option ℕ) (m : Mod) (os : List Mod) → committed x ≡ None → same_xid x m.xid ≡ false → AllByRecursion (IsOverAt committed m) os → Spares x seq row (place m) os
+  spares-under : (x : Xid) (seq row : ℕ) (committed : Xid → Option ℕ) (m : DeedAt) (os : List DeedAt) → committed x ≡ None → same_xid x m.xid ≡ false → AllByRecursion (IsOverAt committed m) os → Spares x seq row (place m) os
   spares-under x seq row committed m [] new a h = tt
   spares-under x seq row committed m (o ∷ os) new a h = ((λ t. here t (place o == place m) refl), spares-under x seq row committed m os new a h.1)
     where
@@ -47,7 +47,7 @@ module _ {V : Type 0} (place : Mod → ℕ) (found what : Mod → V) (empty : V)
           let other : same_xid m.xid o.xid ≡ false = rw (sym is.0, same_xid-sym m.xid x) a in
           absurd (no-commit (committed o.xid) (λ c. c < m.scn) (rw (sym is.0) new) (h.0 e other))
 
-  at-without : (x : Xid) (seq row p : ℕ) (os : List Mod) → Spares x seq row p os → at p (without x seq row os) ≡ at p os
+  at-without : (x : Xid) (seq row p : ℕ) (os : List DeedAt) → Spares x seq row p os → at p (without x seq row os) ≡ at p os
   at-without x seq row p [] h = refl
   at-without x seq row p (o ∷ os) h = here (is_that x seq row o) refl (at-without x seq row p os h.1)
     where
@@ -56,11 +56,11 @@ module _ {V : Type 0} (place : Mod → ℕ) (found what : Mod → V) (empty : V)
       here false e ih = ap (cond (place o == p) (what o)) ih
 
   -- what a step back names
-  abbrev pub taken : Xid → ℕ → ℕ → List Mod → Mod → Mod
+  abbrev pub taken : Xid → ℕ → ℕ → List DeedAt → DeedAt → DeedAt
   taken x seq row [] none = none
   taken x seq row (m ∷ mods) none = cond (is_that x seq row m) m (taken x seq row mods none)
 
-  pub FoundAt-without : (x : Xid) (seq row : ℕ) (committed : Xid → Option ℕ) (mods : List Mod) → committed x ≡ None → OrderedAt committed mods → IsNewest x seq row mods → FoundAt mods → FoundAt (without x seq row mods)
+  pub FoundAt-without : (x : Xid) (seq row : ℕ) (committed : Xid → Option ℕ) (mods : List DeedAt) → committed x ≡ None → OrderedAt committed mods → IsNewest x seq row mods → FoundAt mods → FoundAt (without x seq row mods)
   FoundAt-without x seq row committed [] new h f r = tt
   FoundAt-without x seq row committed (m ∷ mods) new h (inl t) r = rw t r.1
   FoundAt-without x seq row committed (m ∷ mods) new h (inr f) r = here (is_that x seq row m) (FoundAt-without x seq row committed mods new h.1 f.1 r.1)
@@ -70,14 +70,14 @@ module _ {V : Type 0} (place : Mod → ℕ) (found what : Mod → V) (empty : V)
       here false rest = (r.0 ∙ sym (at-without x seq row (place m) mods (spares-under x seq row committed m mods new f.0 h.0)), rest)
 
   -- a step back leaves what the deed had found
-  pub at-restored : (x : Xid) (seq row : ℕ) (committed : Xid → Option ℕ) (mods : List Mod) (none : Mod) → committed x ≡ None → OrderedAt committed mods → IsNewest x seq row mods → FoundAt mods
+  pub at-restored : (x : Xid) (seq row : ℕ) (committed : Xid → Option ℕ) (mods : List DeedAt) (none : DeedAt) → committed x ≡ None → OrderedAt committed mods → IsNewest x seq row mods → FoundAt mods
       → (at (place (taken x seq row mods none)) mods ≡ what (taken x seq row mods none)) × (at (place (taken x seq row mods none)) (without x seq row mods) ≡ found (taken x seq row mods none))
   at-restored x seq row committed [] none new h f r = absurd f
   at-restored x seq row committed (m ∷ mods) none new h (inl t) r = rw (t, eq-eqb (place m) (place m) refl) (refl, sym r.0)
   at-restored x seq row committed (m ∷ mods) none new h (inr f) r = here (is_that x seq row m) refl (at-restored x seq row committed mods none new h.1 f.1 r.1) (apart mods (spares-under x seq row committed m mods new f.0 h.0) f.1)
     where
       -- the one that is taken isn't at m's place
-      apart : (os : List Mod) → Spares x seq row (place m) os → IsNewest x seq row os → (place (taken x seq row os none) == place m) ≡ false
+      apart : (os : List DeedAt) → Spares x seq row (place m) os → IsNewest x seq row os → (place (taken x seq row os none) == place m) ≡ false
       apart [] s g = absurd g
       apart (o ∷ os) s g = by_case (is_that x seq row o) refl g (λ n. apart os s.1 n)
         where

@@ -15,7 +15,7 @@ use Rattle.journal.specs.declared.deeds.Commit.{Commit}
 use Rattle.journal.specs.History.{is_before, entered, value_by, changes_up_to}
 use Rattle.journal.specs.Good.{changes_in, Replays}
 use Rattle.journal.proofs.XidLemmas.{same_xid-true}
-use Rattle.board_rows.specs.Board.{Mod, of_xid}
+use Rattle.board_rows.specs.Board.{DeedAt, of_xid}
 use Rattle.board_rows.specs.Rows.{IsFree, on, shown, on_row, deeds_in, seen_at, IsOver, Ordered}
 use Rattle.board_rows.proofs.Shown.{NoneOn, clash, all_map, shown-or, shown-hidden, changes_of-append, on_row-of_xid}
 use Rattle.board_rows.proofs.Table.{IsClear}
@@ -106,26 +106,26 @@ replays_on-head (Changes change) all mine base e r ih = (r.0 ∙ value-same chan
 replays_on-head (Locks row) all mine base e r ih = ih
 
 -- what stands of a transaction that isn't committed, with the commits below it
-pub own-first : (k s : ℕ) (x : Xid) (committed : Xid → Option ℕ) (mods : List Mod) → committed x ≡ None → Ordered committed mods
+pub own-first : (k s : ℕ) (x : Xid) (committed : Xid → Option ℕ) (mods : List DeedAt) → committed x ≡ None → Ordered committed mods
     → changes_of (shown k (λ y. same_xid x y || seen_at s committed y) mods) ≡ on_row k (changes_of (deeds_in (of_xid x mods))) ++ changes_of (shown k (seen_at s committed) mods)
 own-first k s x committed mods new order =
     ap changes_of (shown-or k (same_xid x) (seen_at s committed) mods (λ y e. rw (sym (same_xid-true x y e), new) refl) (Ordered-ahead k s x committed mods new order))
     ∙ (changes_of-append (shown k (same_xid x) mods) (shown k (seen_at s committed) mods)
     ∙ ap (λ cs. cs ++ changes_of (shown k (seen_at s committed) mods)) (sym (on_row-of_xid k x mods)))
 
-free-under : (s : ℕ) (committed : Xid → Option ℕ) (m : Mod) (os : List Mod) → m.scn ≤ s → AllByRecursion (IsOver committed m) os → AllByRecursion (IsFree committed s m.xid (row_of m.deed)) os
+free-under : (s : ℕ) (committed : Xid → Option ℕ) (m : DeedAt) (os : List DeedAt) → m.scn ≤ s → AllByRecursion (IsOver committed m) os → AllByRecursion (IsFree committed s m.xid (row_of m.deed)) os
 free-under s committed m os le h = all_map (IsOver committed m) (IsFree committed s m.xid (row_of m.deed)) os (λ o over a. one o (same_xid m.xid o.xid) refl (over a)) h
   where
     low : (e : Option ℕ) → IsSomeAnd e (λ c. c < m.scn) → IsSomeAnd e (λ c. c ≤ s)
     low None l = l
     low (Some c) l = omega (arith, l, le)
 
-    one : (o : Mod) (t : Bool) → same_xid m.xid o.xid ≡ t → (same_xid m.xid o.xid ≡ false → IsSomeAnd (committed o.xid) (λ c. c < m.scn)) → (o.xid ≡ m.xid) ⊎ IsSomeAnd (committed o.xid) (λ c. c ≤ s)
+    one : (o : DeedAt) (t : Bool) → same_xid m.xid o.xid ≡ t → (same_xid m.xid o.xid ≡ false → IsSomeAnd (committed o.xid) (λ c. c < m.scn)) → (o.xid ≡ m.xid) ⊎ IsSomeAnd (committed o.xid) (λ c. c ≤ s)
     one o true e f = inl (sym (same_xid-true m.xid o.xid e))
     one o false e f = inr (low (committed o.xid) (f e))
 
 -- what stands of a transaction replays on the table
-pub replays-on : (s : ℕ) (x : Xid) (committed : Xid → Option ℕ) (base : List Change) (mods : List Mod) → committed x ≡ None → AllByRecursion (λ m. m.scn ≤ s) mods → Ordered committed mods
+pub replays-on : (s : ℕ) (x : Xid) (committed : Xid → Option ℕ) (base : List Change) (mods : List DeedAt) → committed x ≡ None → AllByRecursion (λ m. m.scn ≤ s) mods → Ordered committed mods
     → ((k : ℕ) → NoneOn k (same_xid x) mods ⊎ (on_row k base ≡ changes_of (shown k (seen_at s committed) mods))) → Replays (changes_of (deeds_in mods)) → ReplaysOn base (changes_of (deeds_in (of_xid x mods)))
 replays-on s x committed base [] new low h based r = tt
 replays-on s x committed base (m ∷ mods) new low h based r =

@@ -12,7 +12,7 @@ use Rattle.journal.specs.declared.deeds.Commit.{Commit}
 use Rattle.journal.specs.History.{is_before, entered}
 use Rattle.journal.specs.Good.{changes_in, Replays}
 use Rattle.journal.proofs.XidLemmas.{same_xid-refl, same_xid-true}
-use Rattle.board_rows.specs.Board.{Rec, Did, Back, Mod, without, is_that, of_xid, stands}
+use Rattle.board_rows.specs.Board.{Record, Does, TakesBack, DeedAt, without, is_that, of_xid, stands}
 use Rattle.board_rows.specs.Rows.{IsFree, on, shown, on_row, deeds_in, seen_at, IsOver, Ordered, IsMade}
 use Rattle.board_rows.specs.Events.{Finds}
 use Rattle.board_rows.specs.Sound.{RowsStand}
@@ -22,10 +22,10 @@ use Rattle.board_rows.proofs.Order.{suffix_here, suffix_map, Ordered-changes, Or
 use Rattle.board_rows.proofs.Replay.{ReplaysOn, Replays-entered, Replays-head, Replays-tail, replays-on, bound, changes_up_to-all}
 
 -- one more change of a transaction: another has as many
-pub of_xid-other : (y : Xid) (m : Mod) (mods : List Mod) → same_xid y m.xid ≡ false → of_xid y (m ∷ mods) ≡ of_xid y mods
+pub of_xid-other : (y : Xid) (m : DeedAt) (mods : List DeedAt) → same_xid y m.xid ≡ false → of_xid y (m ∷ mods) ≡ of_xid y mods
 of_xid-other y m mods e = rw e refl
 
-pub of_xid-without : (y x : Xid) (seq row : ℕ) (mods : List Mod) → same_xid y x ≡ false → of_xid y (without x seq row mods) ≡ of_xid y mods
+pub of_xid-without : (y x : Xid) (seq row : ℕ) (mods : List DeedAt) → same_xid y x ≡ false → of_xid y (without x seq row mods) ≡ of_xid y mods
 of_xid-without y x seq row [] e = refl
 of_xid-without y x seq row (m ∷ mods) e = here (is_that x seq row m) refl (of_xid-without y x seq row mods e)
   where
@@ -34,14 +34,14 @@ of_xid-without y x seq row (m ∷ mods) e = here (is_that x seq row m) refl (of_
     here false f ih = ap (λ ms. cond (same_xid y m.xid) (m ∷ ms) ms) ih
 
 -- the newest of a transaction is the one that is taken back
-abbrev pub IsNewest : Xid → ℕ → ℕ → List Mod → Type 0
+abbrev pub IsNewest : Xid → ℕ → ℕ → List DeedAt → Type 0
 IsNewest x seq row [] = ⊥
 IsNewest x seq row (m ∷ mods) = (is_that x seq row m ≡ true) ⊎ ((same_xid x m.xid ≡ false) × IsNewest x seq row mods)
 
-pub newest-first : (x : Xid) (seq row : ℕ) (mods : List Mod) (m : Mod) (rest : List Mod) → of_xid x mods ≡ m ∷ rest → seq ≡ m.seq → row ≡ row_of m.deed → IsNewest x seq row mods × (of_xid x (without x seq row mods) ≡ rest)
+pub newest-first : (x : Xid) (seq row : ℕ) (mods : List DeedAt) (m : DeedAt) (rest : List DeedAt) → of_xid x mods ≡ m ∷ rest → seq ≡ m.seq → row ≡ row_of m.deed → IsNewest x seq row mods × (of_xid x (without x seq row mods) ≡ rest)
 newest-first x seq row [] m rest e f g = absurd (none e)
   where
-    none : ◌≡◌ {A = List Mod} [] (m ∷ rest) → ⊥
+    none : ◌≡◌ {A = List DeedAt} [] (m ∷ rest) → ⊥
     none e = (cc)
 newest-first x seq row (o ∷ mods) m rest e f g = here (same_xid x o.xid) refl e (newest-first x seq row mods m rest)
   where
@@ -58,7 +58,7 @@ newest-first x seq row (o ∷ mods) m rest e f g = here (same_xid x o.xid) refl 
         (inr (a, rest_is.0), rw off (rw a rest_is.1))
 
 -- nothing stands over it on its row
-under-other : (x : Xid) (seq row : ℕ) (committed : Xid → Option ℕ) (m : Mod) (os : List Mod) → committed x ≡ None → same_xid x m.xid ≡ false → AllByRecursion (IsOver committed m) os → IsNewest x seq row os → (row == row_of m.deed) ≡ false
+under-other : (x : Xid) (seq row : ℕ) (committed : Xid → Option ℕ) (m : DeedAt) (os : List DeedAt) → committed x ≡ None → same_xid x m.xid ≡ false → AllByRecursion (IsOver committed m) os → IsNewest x seq row os → (row == row_of m.deed) ≡ false
 under-other x seq row committed m [] new a h f = absurd f
 under-other x seq row committed m (o ∷ os) new a h (inr f) = under-other x seq row committed m os new a h.1 f.1
 under-other x seq row committed m (o ∷ os) new a h (inl t) = here (row == row_of m.deed) refl
@@ -71,11 +71,11 @@ under-other x seq row committed m (o ∷ os) new a h (inl t) = here (row == row_
         let other : same_xid m.xid o.xid ≡ false = rw (sym is.0, same_xid-sym m.xid x) a in
         absurd (no-commit (committed o.xid) (λ c. c < m.scn) (rw (sym is.0) new) (h.0 same other))
 
-value-without : (k : ℕ) (x : Xid) (seq row : ℕ) (mods : List Mod) → (row == k) ≡ false → on_row k (changes_of (deeds_in mods)) ≡ on_row k (changes_of (deeds_in (without x seq row mods)))
+value-without : (k : ℕ) (x : Xid) (seq row : ℕ) (mods : List DeedAt) → (row == k) ≡ false → on_row k (changes_of (deeds_in mods)) ≡ on_row k (changes_of (deeds_in (without x seq row mods)))
 value-without k x seq row mods e =
     on_row-all k mods ∙ (ap changes_of (sym (shown-without k (λ y. true) x seq row mods (λ a. clash (row == k) a e))) ∙ sym (on_row-all k (without x seq row mods)))
 
-pub Replays-without : (x : Xid) (seq row : ℕ) (committed : Xid → Option ℕ) (mods : List Mod) → committed x ≡ None → Ordered committed mods → IsNewest x seq row mods → Replays (changes_of (deeds_in mods)) → Replays (changes_of (deeds_in (without x seq row mods)))
+pub Replays-without : (x : Xid) (seq row : ℕ) (committed : Xid → Option ℕ) (mods : List DeedAt) → committed x ≡ None → Ordered committed mods → IsNewest x seq row mods → Replays (changes_of (deeds_in mods)) → Replays (changes_of (deeds_in (without x seq row mods)))
 Replays-without x seq row committed [] new h f r = tt
 Replays-without x seq row committed (m ∷ mods) new h (inl t) r = rw t (Replays-tail m.deed (deeds_in mods) r)
 Replays-without x seq row committed (m ∷ mods) new h (inr f) r = here (is_that x seq row m) (Replays-without x seq row committed mods new h.1 f.1 (Replays-tail m.deed (deeds_in mods) r))
@@ -87,18 +87,18 @@ Replays-without x seq row committed (m ∷ mods) new h (inr f) r = here (is_that
         (value-without (row_of m.deed) x seq row mods (under-other x seq row committed m mods new f.0 h.0 f.1)) rest
 
 -- a commit of the history is another's than x, which isn't committed
-made-other : (committed : Xid → Option ℕ) (mods other : List Mod) (x : Xid) → committed x ≡ None → ((y : Xid) → same_xid y x ≡ false → of_xid y mods ≡ of_xid y other) → (a : Commit) → IsMade committed mods a → IsMade committed other a
+made-other : (committed : Xid → Option ℕ) (mods other : List DeedAt) (x : Xid) → committed x ≡ None → ((y : Xid) → same_xid y x ≡ false → of_xid y mods ≡ of_xid y other) → (a : Commit) → IsMade committed mods a → IsMade committed other a
 made-other committed mods other x new same a made =
-    (made.0, made.1 ∙ ap (λ (ms : List Mod). changes_of (deeds_in ms)) (same a.xid (differ (same_xid a.xid x) refl)))
+    (made.0, made.1 ∙ ap (λ (ms : List DeedAt). changes_of (deeds_in ms)) (same a.xid (differ (same_xid a.xid x) refl)))
   where
     differ : (t : Bool) → same_xid a.xid x ≡ t → t ≡ false
     differ false e = refl
     differ true e = absurd (let none : None ≡ Some a.commit_scn = sym new ∙ (ap committed (sym (same_xid-true a.xid x e)) ∙ made.0) in cc)
 
-module _ {recs : List Rec} {committed : Xid → Option ℕ} {commits : List Commit} (rows : RowsStand recs committed commits) where
+module _ {recs : List Record} {committed : Xid → Option ℕ} {commits : List Commit} (rows : RowsStand recs committed commits) where
   pub rows-changes : (s c : ℕ) (x : Xid) (seq : ℕ) (deed : Deed) → s < c → committed x ≡ None
       → AllByRecursion (IsFree committed s x (row_of deed)) (stands recs)
-      → Finds deed (stands recs) → RowsStand (Did c x seq deed ∷ recs) committed commits
+      → Finds deed (stands recs) → RowsStand (Does c x seq deed ∷ recs) committed commits
   rows-changes s c x seq deed lt new free found = record {
     order = (Ordered-changes committed m (stands recs) s lt free (suffix_here (λ older. Ordered committed (stands older)) recs rows.order), rows.order);
     deeds_replay = (replays deed found, rows.deeds_replay);
@@ -107,14 +107,14 @@ module _ {recs : List Rec} {committed : Xid → Option ℕ} {commits : List Comm
     replay = rows.replay;
   }
     where
-      m : Mod
+      m : DeedAt
       m = record { xid = x; seq = seq; scn = c; deed = deed }
 
       replays : (d : Deed) → Finds d (stands recs) → Replays (changes_of (d ∷ deeds_in (stands recs)))
       replays (Changes change) f = (f, suffix_here (λ older. Replays (changes_of (deeds_in (stands older)))) recs rows.deeds_replay)
       replays (Locks row) f = suffix_here (λ older. Replays (changes_of (deeds_in (stands older)))) recs rows.deeds_replay
 
-  pub rows-back : (i c : ℕ) (x : Xid) (seq row : ℕ) → committed x ≡ None → IsNewest x seq row (stands recs) → RowsStand (Back i c x seq row ∷ recs) committed commits
+  pub rows-back : (i c : ℕ) (x : Xid) (seq row : ℕ) → committed x ≡ None → IsNewest x seq row (stands recs) → RowsStand (TakesBack i c x seq row ∷ recs) committed commits
   rows-back i c x seq row new newest = record {
     order = (Ordered-back committed x seq row (stands recs) order, rows.order);
     deeds_replay = (Replays-without x seq row committed (stands recs) new order newest (suffix_here (λ older. Replays (changes_of (deeds_in (stands older)))) recs rows.deeds_replay), rows.deeds_replay);
@@ -127,7 +127,7 @@ module _ {recs : List Rec} {committed : Xid → Option ℕ} {commits : List Comm
       order = suffix_here (λ older. Ordered committed (stands older)) recs rows.order
 
   -- an end changes no row
-  pub rows-ends : (r : Rec) → stands (r ∷ recs) ≡ stands recs → RowsStand (r ∷ recs) committed commits
+  pub rows-ends : (r : Record) → stands (r ∷ recs) ≡ stands recs → RowsStand (r ∷ recs) committed commits
   rows-ends r same = record {
     order = (rw same (suffix_here (λ older. Ordered committed (stands older)) recs rows.order), rows.order);
     deeds_replay = (rw same (suffix_here (λ older. Replays (changes_of (deeds_in (stands older)))) recs rows.deeds_replay), rows.deeds_replay);
@@ -179,7 +179,7 @@ module _ {recs : List Rec} {committed : Xid → Option ℕ} {commits : List Comm
 
       on : ReplaysOn (changes_in commits) (changes_of (deeds_in (of_xid x (stands recs))))
       on =
-          let low = bound (λ (m : Mod). m.scn) (stands recs) in
+          let low = bound (λ (m : DeedAt). m.scn) (stands recs) in
           let up = bound (λ (b : Commit). b.commit_scn) commits in
           let s = max low.0 up.0 in
           let all = changes_up_to-all s commits (up.1 s (omega arith)) in

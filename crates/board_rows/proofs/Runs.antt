@@ -19,7 +19,7 @@ module _ (asked : ℕ → Option Range) (insts : ℕ) where
     clocks = record { knows = λ i. omega arith; lasts = λ i. omega arith; drawn = tt; rising = tt };
     txns = record {
       each = λ x. record { active = λ e. absurd (false≢true e); stands = λ g. refl; marks = λ c e. (cc); commits = refl; rolled = λ e. refl };
-      records = tt;
+      each_record = tt;
       follows = tt;
       apart = λ c i lt. refl;
     };
@@ -75,7 +75,7 @@ module _ (asked : ℕ → Option Range) (insts : ℕ) where
     replay = sound.rows.replay;
   }
 
-  pub good-history : (b : Board) → Sound asked insts b → history b.past ≡ logged b.durable b.recs
+  pub good-history : (b : Board) → Sound asked insts b → history b.past ≡ logged b.durable b.records
   good-history b sound = sound.log_history
 
   pub run-sound : (events : List Event) (end : Board) → Leads asked insts nothing events end → Sound asked insts end

@@ -7,7 +7,7 @@ use Rattle.base_types.specs.declared.names.Xid.{Xid}
 use Rattle.journal.specs.Past.{same_xid}
 use Rattle.journal.specs.declared.deeds.Deed.{Deed}
 use Rattle.journal.proofs.XidLemmas.{same_xid-true}
-use Rattle.board_rows.specs.Board.{Rec, Did, Back, Commits, Rolls, thread_of, scn_of, xid_of, Stage, Active, Over, stage, IsSafe}
+use Rattle.board_rows.specs.Board.{Record, Does, TakesBack, Commits, RollsBack, thread_of, scn_of, xid_of, Stage, Active, Over, stage, IsSafe}
 use Rattle.board_rows.specs.Events.{put}
 use Rattle.board_rows.specs.Sound.{Segments, IsOnSafe, AreOnSafe}
 use Rattle.board_rows.proofs.Shown.{all_map, all_both, clash}
@@ -15,28 +15,28 @@ use Rattle.board_rows.proofs.ClockSteps.{put-rises}
 use Rattle.board_rows.proofs.Losses.{all_filter, Kept, kept-other, kept-low, AllKept, stage-kept}
 
 -- what is safe stays so as more enters
-safe-more : (old now : ℕ → ℕ) → ((j : ℕ) → old j ≤ now j) → (r : Rec) → IsSafe old r → IsSafe now r
+safe-more : (old now : ℕ → ℕ) → ((j : ℕ) → old j ≤ now j) → (r : Record) → IsSafe old r → IsSafe now r
 safe-more old now rise r h = elim h [ inl e ↦ inl e | inr le ↦ inr (let up = rise (thread_of r) in omega (arith, le, up)) ]
 
-under-more : (old now : ℕ → ℕ) → ((j : ℕ) → old j ≤ now j) → (recs : List Rec) → AreOnSafe old recs → AreOnSafe now recs
+under-more : (old now : ℕ → ℕ) → ((j : ℕ) → old j ≤ now j) → (recs : List Record) → AreOnSafe old recs → AreOnSafe now recs
 under-more old now rise [] h = tt
 under-more old now rise (r ∷ recs) h = (one r h.0, under-more old now rise recs h.1)
   where
-    one : (r : Rec) → IsOnSafe old r recs → IsOnSafe now r recs
-    one (Did c x seq d) h = all_map (λ o. (xid_of o).seg ≡ x.seg → IsSafe old o) (λ o. (xid_of o).seg ≡ x.seg → IsSafe now o) recs (λ o f e. safe-more old now rise o (f e)) h
-    one (Back i c x seq row) h = tt
+    one : (r : Record) → IsOnSafe old r recs → IsOnSafe now r recs
+    one (Does c x seq d) h = all_map (λ o. (xid_of o).seg ≡ x.seg → IsSafe old o) (λ o. (xid_of o).seg ≡ x.seg → IsSafe now o) recs (λ o f e. safe-more old now rise o (f e)) h
+    one (TakesBack i c x seq row) h = tt
     one (Commits c x) h = tt
-    one (Rolls i c x) h = tt
+    one (RollsBack i c x) h = tt
 
-under-kept : (i kept : ℕ) (durable : ℕ → ℕ) (recs : List Rec) → AreOnSafe durable recs → AreOnSafe durable (filter (Kept i kept) recs)
+under-kept : (i kept : ℕ) (durable : ℕ → ℕ) (recs : List Record) → AreOnSafe durable recs → AreOnSafe durable (filter (Kept i kept) recs)
 under-kept i kept durable [] h = tt
 under-kept i kept durable (r ∷ recs) h = here (Kept i kept r) (one r h.0) (under-kept i kept durable recs h.1)
   where
-    one : (r : Rec) → IsOnSafe durable r recs → IsOnSafe durable r (filter (Kept i kept) recs)
-    one (Did c x seq d) f = all_map (λ o. (Kept i kept o ≡ true) × ((xid_of o).seg ≡ x.seg → IsSafe durable o)) (λ o. (xid_of o).seg ≡ x.seg → IsSafe durable o) (filter (Kept i kept) recs) (λ o e. e.1) (all_filter (λ o. (xid_of o).seg ≡ x.seg → IsSafe durable o) (Kept i kept) recs f)
-    one (Back j c x seq row) f = tt
+    one : (r : Record) → IsOnSafe durable r recs → IsOnSafe durable r (filter (Kept i kept) recs)
+    one (Does c x seq d) f = all_map (λ o. (Kept i kept o ≡ true) × ((xid_of o).seg ≡ x.seg → IsSafe durable o)) (λ o. (xid_of o).seg ≡ x.seg → IsSafe durable o) (filter (Kept i kept) recs) (λ o e. e.1) (all_filter (λ o. (xid_of o).seg ≡ x.seg → IsSafe durable o) (Kept i kept) recs f)
+    one (TakesBack j c x seq row) f = tt
     one (Commits c x) f = tt
-    one (Rolls j c x) f = tt
+    one (RollsBack j c x) f = tt
 
     here : (t : Bool) → IsOnSafe durable r (filter (Kept i kept) recs) → AreOnSafe durable (filter (Kept i kept) recs) → AreOnSafe durable (cond t (r ∷ filter (Kept i kept) recs) (filter (Kept i kept) recs))
     here true f g = (f, g)
@@ -47,15 +47,15 @@ still : (st : Stage) (end : Option ℕ) (t live up : Bool) → (st ≡ Active �
 still st end true live up h e is = absurd (let bad : ◌≡◌ {A = Stage} (Over end) Active = e in cc)
 still st end false live up h e is = h e is
 
-module _ {recs : List Rec} {durable : ℕ → ℕ} {live : Xid → Bool} {up : ℕ → Bool} (h : Segments recs durable live up) where
-  abbrev WasSafe : Rec → Type 0
+module _ {recs : List Record} {durable : ℕ → ℕ} {live : Xid → Bool} {up : ℕ → Bool} (h : Segments recs durable live up) where
+  abbrev WasSafe : Record → Type 0
   WasSafe r = up (xid_of r).seg ≡ true → IsSafe durable r
 
   fewer : (y : Xid) (t : Bool) → cond t false (live y) ≡ true → up y.seg ≡ true
   fewer y true e = clash false e refl
   fewer y false e = h.lives y e
 
-  pub segments-changes : (c : ℕ) (x : Xid) (seq : ℕ) (deed : Deed) → up x.seg ≡ true → Segments (Did c x seq deed ∷ recs) durable (λ y. cond (same_xid y x) true (live y)) up
+  pub segments-changes : (c : ℕ) (x : Xid) (seq : ℕ) (deed : Deed) → up x.seg ≡ true → Segments (Does c x seq deed ∷ recs) durable (λ y. cond (same_xid y x) true (live y)) up
   segments-changes c x seq deed is = record {
     lives = λ y. lives y (same_xid y x) refl;
     active = λ y. active y (same_xid y x);
@@ -71,7 +71,7 @@ module _ {recs : List Rec} {durable : ℕ → ℕ} {live : Xid → Bool} {up : �
       active y true e f = refl
       active y false e f = h.active y e f
 
-  pub segments-back : (i c : ℕ) (x : Xid) (seq row : ℕ) → stage x recs ≡ Active → (live x ≡ true → i ≡ x.seg) → Segments (Back i c x seq row ∷ recs) durable live up
+  pub segments-back : (i c : ℕ) (x : Xid) (seq row : ℕ) → stage x recs ≡ Active → (live x ≡ true → i ≡ x.seg) → Segments (TakesBack i c x seq row ∷ recs) durable live up
   segments-back i c x seq row is own = record { lives = h.lives; active = h.active; safe = ((λ f. inl (own (h.active x is f))), h.safe); under = (tt, h.under) }
 
   pub segments-marks : (c : ℕ) (x : Xid) → Segments (Commits c x ∷ recs) durable (λ y. cond (same_xid y x) false (live y)) up
@@ -82,7 +82,7 @@ module _ {recs : List Rec} {durable : ℕ → ℕ} {live : Xid → Bool} {up : �
     under = (tt, h.under);
   }
 
-  pub segments-rolls : (i c : ℕ) (x : Xid) → stage x recs ≡ Active → (live x ≡ true → i ≡ x.seg) → Segments (Rolls i c x ∷ recs) durable (λ y. cond (same_xid y x) false (live y)) up
+  pub segments-rolls : (i c : ℕ) (x : Xid) → stage x recs ≡ Active → (live x ≡ true → i ≡ x.seg) → Segments (RollsBack i c x ∷ recs) durable (λ y. cond (same_xid y x) false (live y)) up
   segments-rolls i c x is own = record {
     lives = λ y. fewer y (same_xid y x);
     active = λ y. still (stage y recs) None (same_xid y x) (live y) (up y.seg) (h.active y);
@@ -118,7 +118,7 @@ module _ {recs : List Rec} {durable : ℕ → ℕ} {live : Xid → Bool} {up : �
       lives y false e = h.lives y e
 
       -- what is safe is kept, where its segment isn't that of the lost instance
-      kept-safe : (r : Rec) → ((xid_of r).seg == i) ≡ false → IsSafe durable r → Kept i kept r ≡ true
+      kept-safe : (r : Record) → ((xid_of r).seg == i) ≡ false → IsSafe durable r → Kept i kept r ≡ true
       kept-safe r off safe = elim safe [ inl e ↦ kept-other i kept r (rw e off) | inr le ↦ here (thread_of r == i) refl le ]
         where
           here : (t : Bool) → (thread_of r == i) ≡ t → scn_of r ≤ durable (thread_of r) → Kept i kept r ≡ true
@@ -128,7 +128,7 @@ module _ {recs : List Rec} {durable : ℕ → ℕ} {live : Xid → Bool} {up : �
       all-kept : (y : Xid) → (y.seg == i) ≡ false → up y.seg ≡ true → AllKept i kept y recs
       all-kept y off is = all_map WasSafe (λ r. same_xid y (xid_of r) ≡ true → Kept i kept r ≡ true) recs (λ r f e. one r (same_xid-true y (xid_of r) e) f) h.safe
         where
-          one : (r : Rec) → y ≡ xid_of r → WasSafe r → Kept i kept r ≡ true
+          one : (r : Record) → y ≡ xid_of r → WasSafe r → Kept i kept r ≡ true
           one r same f = kept-safe r (rw (sym same) off) (f (rw (sym same) is))
 
       active : (y : Xid) (t : Bool) → (y.seg == i) ≡ t → stage y (filter (Kept i kept) recs) ≡ Active → cond t false (up y.seg) ≡ true → cond t false (live y) ≡ true
@@ -151,6 +151,6 @@ module _ {recs : List Rec} {durable : ℕ → ℕ} {live : Xid → Bool} {up : �
       active y true f e is = absurd (ended y (eqb-true y.seg i f) e)
       active y false f e is = h.active y e is
 
-      one : (r : Rec) → ((xid_of r).seg ≡ i → IsSafe durable r) → (up (xid_of r).seg ≡ true → IsSafe durable r) → (t : Bool) → ((xid_of r).seg == i) ≡ t → cond t true (up (xid_of r).seg) ≡ true → IsSafe durable r
+      one : (r : Record) → ((xid_of r).seg ≡ i → IsSafe durable r) → (up (xid_of r).seg ≡ true → IsSafe durable r) → (t : Bool) → ((xid_of r).seg == i) ≡ t → cond t true (up (xid_of r).seg) ≡ true → IsSafe durable r
       one r new old true f is = new (eqb-true (xid_of r).seg i f)
       one r new old false f is = old is

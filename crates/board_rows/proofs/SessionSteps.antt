@@ -14,7 +14,7 @@ use Rattle.journal.specs.declared.deeds.Commit.{Commit}
 use Rattle.journal.specs.Sees.{sees}
 use Rattle.journal.specs.Good.{Range, RowsAreSeen, FoundIsSeen, CommitIsProper, AckIsProper, StartIsProper, RowIsFree}
 use Rattle.journal.proofs.XidLemmas.{both_true, same_xid-refl, same_xid-true}
-use Rattle.board_rows.specs.Board.{Mod, of_xid}
+use Rattle.board_rows.specs.Board.{DeedAt, of_xid}
 use Rattle.board_rows.specs.Rows.{IsFree, on, deeds_in, committed_at}
 use Rattle.board_rows.specs.Events.{Scan, put}
 use Rattle.board_rows.specs.Sound.{Sessions, Starts, Answers, IsProper, IsRead, ScanIsSeen}
@@ -45,7 +45,7 @@ some-stood x c (Committed y d i ∷ past) h = here (same_xid x y) h (some-stood 
 some-stood x c (_ ∷ past) h = some-stood x c past h
 
 -- who holds a row has a deed there that stands
-any-on : (k s : ℕ) (x y : Xid) (committed : Xid → Option ℕ) (mods : List Mod) → list_any (λ deed. row_of deed == k) (deeds_in (of_xid y mods)) ≡ true → AllByRecursion (IsFree committed s x k) mods → (y ≡ x) ⊎ IsSomeAnd (committed y) (λ c. c ≤ s)
+any-on : (k s : ℕ) (x y : Xid) (committed : Xid → Option ℕ) (mods : List DeedAt) → list_any (λ deed. row_of deed == k) (deeds_in (of_xid y mods)) ≡ true → AllByRecursion (IsFree committed s x k) mods → (y ≡ x) ⊎ IsSomeAnd (committed y) (λ c. c ≤ s)
 any-on k s x y committed [] h free = clash false h refl
 any-on k s x y committed (m ∷ mods) h free = here (same_xid y m.xid) refl h (λ g. any-on k s x y committed mods g free.1)
   where
@@ -58,7 +58,7 @@ any-on k s x y committed (m ∷ mods) h free = here (same_xid y m.xid) refl h (�
         row true a h = rw (same_xid-true y m.xid e) (free.0 a)
 
 -- no other transaction holds a row where it is changed
-pub row-free : (k s : ℕ) (x : Xid) (past : Past) (committed : Xid → Option ℕ) (mods : List Mod) → ((y : Xid) → is_open y past ≡ true → (committed y ≡ None) × (standing y past ≡ deeds_in (of_xid y mods))) → AllByRecursion (IsFree committed s x k) mods
+pub row-free : (k s : ℕ) (x : Xid) (past : Past) (committed : Xid → Option ℕ) (mods : List DeedAt) → ((y : Xid) → is_open y past ≡ true → (committed y ≡ None) × (standing y past ≡ deeds_in (of_xid y mods))) → AllByRecursion (IsFree committed s x k) mods
     → (y : Xid) → holds y k past ≡ true → y ≡ x
 row-free k s x past committed mods live free y h =
     let parts = both_true (is_open y past) (list_any (λ deed. row_of deed == k) (standing y past)) h in

@@ -8,7 +8,7 @@ use Rattle.journal.specs.declared.deeds.Deed.{Deed}
 use Rattle.journal.specs.declared.deeds.Deed.TheVariants.{Changes, Locks}
 use Rattle.journal.specs.Standing.{row_of, changes_of}
 use Rattle.journal.proofs.XidLemmas.{both_true, same_xid-true}
-use Rattle.board_rows.specs.Board.{Mod, Rec, Did, Back, Commits, Rolls, stands, without, xid_of, is_that, touches, of_xid}
+use Rattle.board_rows.specs.Board.{DeedAt, Record, Does, TakesBack, Commits, RollsBack, stands, without, xid_of, is_that, touches, of_xid}
 use Rattle.board_rows.specs.Rows.{on, shown, on_row, deeds_in}
 
 -- what can't be true and false
@@ -16,11 +16,11 @@ pub clash : {A : Type 0} (b : Bool) → b ≡ true → b ≡ false → A
 clash b t f = absurd (false≢true (sym f ∙ t))
 
 -- none of these is on the row
-abbrev pub NoneOn : ℕ → (Xid → Bool) → List Mod → Type 0
+abbrev pub NoneOn : ℕ → (Xid → Bool) → List DeedAt → Type 0
 NoneOn k test mods = AllByRecursion (λ m. on k m ≡ true → test m.xid ≡ false) mods
 
 -- on row k, what q tells is newer than what p tells
-abbrev pub Ahead : ℕ → (Xid → Bool) → (Xid → Bool) → List Mod → Type 0
+abbrev pub Ahead : ℕ → (Xid → Bool) → (Xid → Bool) → List DeedAt → Type 0
 Ahead k q p [] = Unit {0}
 Ahead k q p (m ∷ mods) = (on k m ≡ true → p m.xid ≡ true → NoneOn k q mods) × Ahead k q p mods
 
@@ -36,7 +36,7 @@ pub all_append : {X : Type 0} (P : X → Type 0) (xs ys : List X) → AllByRecur
 all_append P [] ys h = (tt, h)
 all_append P (x ∷ xs) ys h = let rest = all_append P xs ys h.1 in ((h.0, rest.0), rest.1)
 
-pub shown-none : (k : ℕ) (q p : Xid → Bool) (mods : List Mod) → NoneOn k q mods → shown k (λ y. q y || p y) mods ≡ shown k p mods
+pub shown-none : (k : ℕ) (q p : Xid → Bool) (mods : List DeedAt) → NoneOn k q mods → shown k (λ y. q y || p y) mods ≡ shown k p mods
 shown-none k q p [] h = refl
 shown-none k q p (m ∷ mods) h = here (on k m) (q m.xid) (p m.xid) h.0 (shown-none k q p mods h.1)
   where
@@ -46,7 +46,7 @@ shown-none k q p (m ∷ mods) h = here (on k m) (q m.xid) (p m.xid) h.0 (shown-n
     here true false false n ih = ih
     here false a b n ih = ih
 
-pub none-shown : (k : ℕ) (q : Xid → Bool) (mods : List Mod) → NoneOn k q mods → shown k q mods ≡ []
+pub none-shown : (k : ℕ) (q : Xid → Bool) (mods : List DeedAt) → NoneOn k q mods → shown k q mods ≡ []
 none-shown k q [] h = refl
 none-shown k q (m ∷ mods) h = here (on k m) (q m.xid) h.0 (none-shown k q mods h.1)
   where
@@ -56,7 +56,7 @@ none-shown k q (m ∷ mods) h = here (on k m) (q m.xid) h.0 (none-shown k q mods
     here false a n ih = ih
 
 -- what is ahead comes first
-pub shown-or : (k : ℕ) (q p : Xid → Bool) (mods : List Mod) → ((y : Xid) → q y ≡ true → p y ≡ false) → Ahead k q p mods → shown k (λ y. q y || p y) mods ≡ shown k q mods ++ shown k p mods
+pub shown-or : (k : ℕ) (q p : Xid → Bool) (mods : List DeedAt) → ((y : Xid) → q y ≡ true → p y ≡ false) → Ahead k q p mods → shown k (λ y. q y || p y) mods ≡ shown k q mods ++ shown k p mods
 shown-or k q p [] apart h = refl
 shown-or k q p (m ∷ mods) apart h = here (on k m) (q m.xid) (p m.xid) (apart m.xid) h.0 (shown-or k q p mods apart h.1)
   where
@@ -68,7 +68,7 @@ shown-or k q p (m ∷ mods) apart h = here (on k m) (q m.xid) (p m.xid) (apart m
     here false a b n f ih = ih
 
 -- tests that agree on what is on the row
-pub shown-alike : (k : ℕ) (p q : Xid → Bool) (mods : List Mod) → AllByRecursion (λ m. on k m ≡ true → p m.xid ≡ q m.xid) mods → shown k p mods ≡ shown k q mods
+pub shown-alike : (k : ℕ) (p q : Xid → Bool) (mods : List DeedAt) → AllByRecursion (λ m. on k m ≡ true → p m.xid ≡ q m.xid) mods → shown k p mods ≡ shown k q mods
 shown-alike k p q [] h = refl
 shown-alike k p q (m ∷ mods) h = here (on k m) (p m.xid) (q m.xid) h.0 (shown-alike k p q mods h.1)
   where
@@ -80,11 +80,11 @@ pub all_of : {X : Type 0} (P : X → Type 0) (xs : List X) → ((x : X) → P x)
 all_of P [] f = tt
 all_of P (x ∷ xs) f = (f x, all_of P xs f)
 
-pub shown-same : (k : ℕ) (p q : Xid → Bool) (mods : List Mod) → ((y : Xid) → p y ≡ q y) → shown k p mods ≡ shown k q mods
+pub shown-same : (k : ℕ) (p q : Xid → Bool) (mods : List DeedAt) → ((y : Xid) → p y ≡ q y) → shown k p mods ≡ shown k q mods
 shown-same k p q mods h = shown-alike k p q mods (all_of (λ m. on k m ≡ true → p m.xid ≡ q m.xid) mods (λ m _. h m.xid))
 
 -- one more that isn't seen
-pub shown-hidden : (k : ℕ) (p : Xid → Bool) (m : Mod) (mods : List Mod) → (on k m ≡ true → p m.xid ≡ false) → shown k p (m ∷ mods) ≡ shown k p mods
+pub shown-hidden : (k : ℕ) (p : Xid → Bool) (m : DeedAt) (mods : List DeedAt) → (on k m ≡ true → p m.xid ≡ false) → shown k p (m ∷ mods) ≡ shown k p mods
 shown-hidden k p m mods h = here (on k m) (p m.xid) h
   where
     here : (o a : Bool) → (o ≡ true → a ≡ false) → cond (o && a) (m.deed ∷ shown k p mods) (shown k p mods) ≡ shown k p mods
@@ -93,14 +93,14 @@ shown-hidden k p m mods h = here (on k m) (p m.xid) h
     here false a n = refl
 
 -- what a step back names
-pub that-is : (x : Xid) (seq row : ℕ) (m : Mod) → is_that x seq row m ≡ true → (x ≡ m.xid) × (row ≡ row_of m.deed)
+pub that-is : (x : Xid) (seq row : ℕ) (m : DeedAt) → is_that x seq row m ≡ true → (x ≡ m.xid) × (row ≡ row_of m.deed)
 that-is x seq row m h =
     let one = both_true (same_xid x m.xid) (seq == m.seq && row == row_of m.deed) h in
     let two = both_true (seq == m.seq) (row == row_of m.deed) one.1 in
     (same_xid-true x m.xid one.0, eqb-true row (row_of m.deed) two.1)
 
 -- taking back what isn't seen, or is on another row
-pub shown-without : (k : ℕ) (p : Xid → Bool) (x : Xid) (seq row : ℕ) (mods : List Mod) → ((row == k) ≡ true → p x ≡ false) → shown k p (without x seq row mods) ≡ shown k p mods
+pub shown-without : (k : ℕ) (p : Xid → Bool) (x : Xid) (seq row : ℕ) (mods : List DeedAt) → ((row == k) ≡ true → p x ≡ false) → shown k p (without x seq row mods) ≡ shown k p mods
 shown-without k p x seq row [] h = refl
 shown-without k p x seq row (m ∷ mods) h = here (is_that x seq row m) refl (shown-without k p x seq row mods h)
   where
@@ -111,14 +111,14 @@ shown-without k p x seq row (m ∷ mods) h = here (is_that x seq row m) refl (sh
     here false e ih = ap (λ ds. cond (on k m && p m.xid) (m.deed ∷ ds) ds) ih
 
 -- a later record of a transaction that isn't seen changes nothing of what is seen
-pub shown-later : (k : ℕ) (p : Xid → Bool) (newer there : List Rec) → AllByRecursion (λ r. touches k r ≡ true → p (xid_of r) ≡ false) newer → shown k p (stands (newer ++ there)) ≡ shown k p (stands there)
+pub shown-later : (k : ℕ) (p : Xid → Bool) (newer there : List Record) → AllByRecursion (λ r. touches k r ≡ true → p (xid_of r) ≡ false) newer → shown k p (stands (newer ++ there)) ≡ shown k p (stands there)
 shown-later k p [] there h = refl
-shown-later k p (Did c x seq d ∷ newer) there h =
+shown-later k p (Does c x seq d ∷ newer) there h =
     shown-hidden k p (record { xid = x; seq = seq; scn = c; deed = d }) (stands (newer ++ there)) h.0 ∙ shown-later k p newer there h.1
-shown-later k p (Back i c x seq row ∷ newer) there h =
+shown-later k p (TakesBack i c x seq row ∷ newer) there h =
     shown-without k p x seq row (stands (newer ++ there)) h.0 ∙ shown-later k p newer there h.1
 shown-later k p (Commits c x ∷ newer) there h = shown-later k p newer there h.1
-shown-later k p (Rolls i c x ∷ newer) there h = shown-later k p newer there h.1
+shown-later k p (RollsBack i c x ∷ newer) there h = shown-later k p newer there h.1
 
 -- the changes among deeds
 pub changes_of-append : (xs ys : List Deed) → changes_of (xs ++ ys) ≡ changes_of xs ++ changes_of ys
@@ -127,7 +127,7 @@ changes_of-append (Changes change ∷ xs) ys = ap (λ cs. change ∷ cs) (change
 changes_of-append (Locks row ∷ xs) ys = changes_of-append xs ys
 
 -- the changes on a row are those of the deeds on it
-pub on_row-all : (k : ℕ) (mods : List Mod) → on_row k (changes_of (deeds_in mods)) ≡ changes_of (shown k (λ y. true) mods)
+pub on_row-all : (k : ℕ) (mods : List DeedAt) → on_row k (changes_of (deeds_in mods)) ≡ changes_of (shown k (λ y. true) mods)
 on_row-all k [] = refl
 on_row-all k (m ∷ mods) = here m.deed (row_of m.deed == k) refl (on_row-all k mods)
   where
@@ -138,7 +138,7 @@ on_row-all k (m ∷ mods) = here m.deed (row_of m.deed == k) refl (on_row-all k 
     here (Locks row) false e ih = ih
 
 -- what stands of x on a row
-pub shown-of_xid : (k : ℕ) (x : Xid) (mods : List Mod) → shown k (λ y. true) (of_xid x mods) ≡ shown k (same_xid x) mods
+pub shown-of_xid : (k : ℕ) (x : Xid) (mods : List DeedAt) → shown k (λ y. true) (of_xid x mods) ≡ shown k (same_xid x) mods
 shown-of_xid k x [] = refl
 shown-of_xid k x (m ∷ mods) = here (on k m) (same_xid x m.xid) refl (shown-of_xid k x mods)
   where
@@ -148,11 +148,11 @@ shown-of_xid k x (m ∷ mods) = here (on k m) (same_xid x m.xid) refl (shown-of_
     here false true e ih = rw e ih
     here false false e ih = ih
 
-pub on_row-of_xid : (k : ℕ) (x : Xid) (mods : List Mod) → on_row k (changes_of (deeds_in (of_xid x mods))) ≡ changes_of (shown k (same_xid x) mods)
+pub on_row-of_xid : (k : ℕ) (x : Xid) (mods : List DeedAt) → on_row k (changes_of (deeds_in (of_xid x mods))) ≡ changes_of (shown k (same_xid x) mods)
 on_row-of_xid k x mods = on_row-all k (of_xid x mods) ∙ ap changes_of (shown-of_xid k x mods)
 
 -- what is shown on a row is on it
-pub on_row-shown : (k : ℕ) (test : Xid → Bool) (mods : List Mod) → on_row k (changes_of (shown k test mods)) ≡ changes_of (shown k test mods)
+pub on_row-shown : (k : ℕ) (test : Xid → Bool) (mods : List DeedAt) → on_row k (changes_of (shown k test mods)) ≡ changes_of (shown k test mods)
 on_row-shown k test [] = refl
 on_row-shown k test (m ∷ mods) = here m.deed (row_of m.deed == k) refl (test m.xid) (on_row-shown k test mods)
   where

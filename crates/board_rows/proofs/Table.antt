@@ -10,7 +10,7 @@ use Rattle.journal.specs.Standing.{changes_of}
 use Rattle.journal.specs.declared.deeds.Commit.{Commit}
 use Rattle.journal.specs.History.{is_before, entered, changes_up_to}
 use Rattle.journal.proofs.XidLemmas.{same_xid-true}
-use Rattle.board_rows.specs.Board.{Mod}
+use Rattle.board_rows.specs.Board.{DeedAt}
 use Rattle.board_rows.specs.Rows.{shown, on_row, is_up_to, seen_at, TableStands}
 use Rattle.board_rows.proofs.Shown.{Ahead, clash, shown-or, shown-same, changes_of-append}
 
@@ -64,7 +64,7 @@ pub record OneMore (x : Xid) (c : ℕ) (old now : Xid → Option ℕ) : Type 0 w
   pub new : old x ≡ None
   pub is : (y : Xid) → now y ≡ cond (same_xid x y) (Some c) (old y)
 
-pub TableStands-committed : (x : Xid) (a : Commit) (old now : Xid → Option ℕ) (commits : List Commit) (mods : List Mod)
+pub TableStands-committed : (x : Xid) (a : Commit) (old now : Xid → Option ℕ) (commits : List Commit) (mods : List DeedAt)
     → OneMore x a.commit_scn old now
     → ((k : ℕ) → on_row k a.changes ≡ changes_of (shown k (same_xid x) mods))
     → AllByRecursion (IsClear a) commits

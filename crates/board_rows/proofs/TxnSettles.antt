@@ -9,36 +9,36 @@ use Rattle.journal.specs.Past.{same_xid}
 use Rattle.journal.specs.declared.deeds.Change.{Change}
 use Rattle.journal.specs.declared.deeds.Deed.{Deed}
 use Rattle.journal.proofs.XidLemmas.{same_xid-refl, same_xid-true}
-use Rattle.board_rows.specs.Board.{Rec, Commits, thread_of, scn_of, xid_of, Stage, Fresh, Active, Over, stage, on_disk, Rising}
+use Rattle.board_rows.specs.Board.{Record, Commits, thread_of, scn_of, xid_of, Stage, Fresh, Active, Over, stage, on_disk, Rising}
 use Rattle.board_rows.specs.Events.{put}
-use Rattle.board_rows.specs.Sound.{Txns, EndsBy, RecIsIn}
+use Rattle.board_rows.specs.Sound.{Txns, EndsBy, RecordIsIn}
 use Rattle.board_rows.proofs.Shown.{all_map, all_append, clash}
 use Rattle.board_rows.proofs.ClockSteps.{put-here, put-rises}
 use Rattle.board_rows.proofs.TxnSteps.{stage-commit}
 
 -- a record of a thread is durable, or the one that becomes so, or above it
-abbrev pub IsPlaced : ℕ → Rec → Rec → Type 0
+abbrev pub IsPlaced : ℕ → Record → Record → Type 0
 IsPlaced upto r o = thread_of o ≡ thread_of r → (scn_of o ≤ upto) ⊎ ((o ≡ r) ⊎ (scn_of r < scn_of o))
 
-pub all-placed : (upto : ℕ) (newer : List Rec) (r : Rec) (there : List Rec) → Rising (newer ++ r ∷ there) → AllByRecursion (λ o. thread_of o ≡ thread_of r → scn_of o ≤ upto) there → AllByRecursion (IsPlaced upto r) (newer ++ r ∷ there)
+pub all-placed : (upto : ℕ) (newer : List Record) (r : Record) (there : List Record) → Rising (newer ++ r ∷ there) → AllByRecursion (λ o. thread_of o ≡ thread_of r → scn_of o ≤ upto) there → AllByRecursion (IsPlaced upto r) (newer ++ r ∷ there)
 all-placed upto [] r there rising first = ((λ _. inr (inl refl)), all_map (λ o. thread_of o ≡ thread_of r → scn_of o ≤ upto) (IsPlaced upto r) there (λ o f e. inl (f e)) first)
 all-placed upto (o ∷ newer) r there rising first =
     let above = (all_append (λ p. thread_of p ≡ thread_of o → scn_of p < scn_of o) newer (r ∷ there) rising.0).1.0 in
     ((λ e. inr (inr (above (sym e)))), all-placed upto newer r there rising.1 first)
 
 -- the commits that the journal tells after a record became durable
-pub record Settled (r : Rec) (old now : Xid → Option ℕ) : Type 0 where
+pub record Settled (r : Record) (old now : Xid → Option ℕ) : Type 0 where
   pub here : (y : Xid) (e : ℕ) → Commits e y ≡ r → now y ≡ Some e
   pub rest : (y : Xid) → ((e : ℕ) → Commits e y ≡ r → ⊥) → now y ≡ old y
 
-module _ {recs : List Rec} {durable : ℕ → ℕ} {stand : Xid → List Deed} {live : Xid → Bool} {mark : Xid → ℕ → List Change} {has_mark : Xid → ℕ → Bool} {committed : Xid → Option ℕ} {has_commit : ℕ → ℕ → Bool}
+module _ {recs : List Record} {durable : ℕ → ℕ} {stand : Xid → List Deed} {live : Xid → Bool} {mark : Xid → ℕ → List Change} {has_mark : Xid → ℕ → Bool} {committed : Xid → Option ℕ} {has_commit : ℕ → ℕ → Bool}
     (txns : Txns recs durable stand live mark has_mark committed has_commit) where
-  pub txns-settles : (newer : List Rec) (r : Rec) (there : List Rec) (now : Xid → Option ℕ) (has_now : ℕ → ℕ → Bool) → recs ≡ newer ++ r ∷ there → durable (thread_of r) < scn_of r → AllByRecursion (λ o. thread_of o ≡ thread_of r → scn_of o ≤ durable (thread_of r)) there → Rising recs
+  pub txns-settles : (newer : List Record) (r : Record) (there : List Record) (now : Xid → Option ℕ) (has_now : ℕ → ℕ → Bool) → recs ≡ newer ++ r ∷ there → durable (thread_of r) < scn_of r → AllByRecursion (λ o. thread_of o ≡ thread_of r → scn_of o ≤ durable (thread_of r)) there → Rising recs
       → Settled r committed now → ((c j : ℕ) → put durable (thread_of r) (scn_of r) j < c → has_now c j ≡ false)
       → Txns recs (put durable (thread_of r) (scn_of r)) stand live mark has_mark now has_now
   txns-settles newer r there now has_now place new first rising settled apart = record {
     each = λ y. record { active = (txns.each y).active; stands = (txns.each y).stands; marks = (txns.each y).marks; commits = commits y (stage y recs) refl; rolled = (txns.each y).rolled };
-    records = txns.records;
+    each_record = txns.each_record;
     follows = txns.follows;
     apart = apart;
   }
@@ -50,10 +50,10 @@ module _ {recs : List Rec} {durable : ℕ → ℕ} {stand : Xid → List Deed} {
       placed = subst (AllByRecursion (IsPlaced (durable i) r)) (sym place) (all-placed (durable i) newer r there (subst Rising place rising) first)
 
       ends : EndsBy (stage (xid_of r) recs) r
-      ends = (all_append (RecIsIn recs live) newer (r ∷ there) (subst (AllByRecursion (RecIsIn recs live)) place txns.records)).1.0.ends
+      ends = (all_append (RecordIsIn recs live) newer (r ∷ there) (subst (AllByRecursion (RecordIsIn recs live)) place txns.each_record)).1.0.ends
 
       is-over : (y : Xid) (e : ℕ) → Commits e y ≡ r → stage y recs ≡ Over (Some e)
-      is-over y e f = subst (λ (o : Rec). EndsBy (stage (xid_of o) recs) o) (sym f) ends
+      is-over y e f = subst (λ (o : Record). EndsBy (stage (xid_of o) recs) o) (sym f) ends
 
       -- its commit, if it has one, is at another SCN
       other : (y : Xid) (st : Stage) → stage y recs ≡ st → ((e : ℕ) → Commits e y ≡ r → st ≡ Over (Some e) → ⊥) → now y ≡ on_disk (durable y.seg) st
@@ -89,7 +89,7 @@ module _ {recs : List Rec} {durable : ℕ → ℕ} {stand : Xid → List Deed} {
       commits y (Over (Some e)) is = here-in y e is (i == y.seg) refl
 
   -- a record that is no commit tells nothing
-  pub settled-quiet : (r : Rec) → ((e : ℕ) (y : Xid) → Commits e y ≡ r → ⊥) → Settled r committed committed
+  pub settled-quiet : (r : Record) → ((e : ℕ) (y : Xid) → Commits e y ≡ r → ⊥) → Settled r committed committed
   settled-quiet r never = record { here = λ y e f. absurd (never e y f); rest = λ y f. refl }
 
   pub apart-quiet : (i d : ℕ) → durable i < d → (c j : ℕ) → put durable i d j < c → has_commit c j ≡ false

@@ -10,105 +10,105 @@ use Rattle.journal.specs.declared.deeds.Change.{Change}
 use Rattle.journal.specs.declared.deeds.Deed.{Deed}
 use Rattle.journal.specs.Standing.{changes_of}
 use Rattle.journal.proofs.XidLemmas.{same_xid-refl, same_xid-true}
-use Rattle.board_rows.specs.Board.{Rec, Did, Back, Commits, Rolls, Mod, without, of_xid, thread_of, scn_of, xid_of, stands, Stage, Fresh, Active, Over, stage, begun, on_disk}
+use Rattle.board_rows.specs.Board.{Record, Does, TakesBack, Commits, RollsBack, DeedAt, without, of_xid, thread_of, scn_of, xid_of, stands, Stage, Fresh, Active, Over, stage, begun, on_disk}
 use Rattle.board_rows.specs.Rows.{deeds_in}
-use Rattle.board_rows.specs.Sound.{GoesOn, Follows, Txns, IsMarked, EndsBy, MayGoOn, CanCommit, TxnAgrees, RecAgrees, RecIsIn}
+use Rattle.board_rows.specs.Sound.{MayFollow, Follows, Txns, IsMarked, EndsBy, MayGoOn, CanCommit, TxnAgrees, RecordAgrees, RecordIsIn}
 use Rattle.board_rows.proofs.Shown.{all_map, all_both, clash}
 use Rattle.board_rows.proofs.RowSteps.{of_xid-without}
 
 -- what has begun isn't fresh, and what is active has begun
-pub begun-used : (x : Xid) (recs : List Rec) → begun x recs ≡ true → stage x recs ≡ Fresh → ⊥
+pub begun-used : (x : Xid) (recs : List Record) → begun x recs ≡ true → stage x recs ≡ Fresh → ⊥
 begun-used x [] b e = clash false b refl
-begun-used x (Did c y seq d ∷ recs) b e = here (same_xid x y) b e (begun-used x recs)
+begun-used x (Does c y seq d ∷ recs) b e = here (same_xid x y) b e (begun-used x recs)
   where
     here : (t : Bool) → cond t true (begun x recs) ≡ true → cond t Active (stage x recs) ≡ Fresh → (begun x recs ≡ true → stage x recs ≡ Fresh → ⊥) → ⊥
     here true b e ih = cc
     here false b e ih = ih b e
-begun-used x (Back i c y seq row ∷ recs) b e = begun-used x recs b e
+begun-used x (TakesBack i c y seq row ∷ recs) b e = begun-used x recs b e
 begun-used x (Commits c y ∷ recs) b e = here (same_xid x y) e (begun-used x recs b)
   where
     here : (t : Bool) → cond t (Over (Some c)) (stage x recs) ≡ Fresh → (stage x recs ≡ Fresh → ⊥) → ⊥
     here true e ih = cc
     here false e ih = ih e
-begun-used x (Rolls i c y ∷ recs) b e = here (same_xid x y) e (begun-used x recs b)
+begun-used x (RollsBack i c y ∷ recs) b e = here (same_xid x y) e (begun-used x recs b)
   where
     here : (t : Bool) → cond t (Over None) (stage x recs) ≡ Fresh → (stage x recs ≡ Fresh → ⊥) → ⊥
     here true e ih = cc
     here false e ih = ih e
 
-pub active-begun : (x : Xid) (recs : List Rec) → stage x recs ≡ Active → begun x recs ≡ true
+pub active-begun : (x : Xid) (recs : List Record) → stage x recs ≡ Active → begun x recs ≡ true
 active-begun x [] e = (cc)
-active-begun x (Did c y seq d ∷ recs) e = here (same_xid x y) e (active-begun x recs)
+active-begun x (Does c y seq d ∷ recs) e = here (same_xid x y) e (active-begun x recs)
   where
     here : (t : Bool) → cond t Active (stage x recs) ≡ Active → (stage x recs ≡ Active → begun x recs ≡ true) → cond t true (begun x recs) ≡ true
     here true e ih = refl
     here false e ih = ih e
-active-begun x (Back i c y seq row ∷ recs) e = active-begun x recs e
+active-begun x (TakesBack i c y seq row ∷ recs) e = active-begun x recs e
 active-begun x (Commits c y ∷ recs) e = here (same_xid x y) e (active-begun x recs)
   where
     here : (t : Bool) → cond t (Over (Some c)) (stage x recs) ≡ Active → (stage x recs ≡ Active → begun x recs ≡ true) → begun x recs ≡ true
     here true e ih = (cc)
     here false e ih = ih e
-active-begun x (Rolls i c y ∷ recs) e = here (same_xid x y) e (active-begun x recs)
+active-begun x (RollsBack i c y ∷ recs) e = here (same_xid x y) e (active-begun x recs)
   where
     here : (t : Bool) → cond t (Over None) (stage x recs) ≡ Active → (stage x recs ≡ Active → begun x recs ≡ true) → begun x recs ≡ true
     here true e ih = (cc)
     here false e ih = ih e
 
 -- nothing follows an end
-pub stops : (r : Rec) (st : Stage) (o : Option ℕ) → GoesOn r st → st ≡ Over o → ⊥
+pub stops : (r : Record) (st : Stage) (o : Option ℕ) → MayFollow r st → st ≡ Over o → ⊥
 stops r (Over p) o g e = g
 stops r Active o g e = cc
 stops r Fresh o g e = cc
 
 -- each record's transaction has begun
-pub begun-all : (recs : List Rec) → Follows recs → AllByRecursion (λ r. begun (xid_of r) recs ≡ true) recs
+pub begun-all : (recs : List Record) → Follows recs → AllByRecursion (λ r. begun (xid_of r) recs ≡ true) recs
 begun-all [] f = tt
 begun-all (r ∷ recs) f =
     (first r f.0, all_map (λ o. begun (xid_of o) recs ≡ true) (λ o. begun (xid_of o) (r ∷ recs) ≡ true) recs (λ o h. more (xid_of o) r h) (begun-all recs f.1))
   where
-    from : (r : Rec) (st : Stage) → stage (xid_of r) recs ≡ st → GoesOn r st → (GoesOn r Fresh → ⊥) → begun (xid_of r) recs ≡ true
+    from : (r : Record) (st : Stage) → stage (xid_of r) recs ≡ st → MayFollow r st → (MayFollow r Fresh → ⊥) → begun (xid_of r) recs ≡ true
     from r Active e g never = active-begun (xid_of r) recs e
     from r Fresh e g never = absurd (never g)
     from r (Over o) e g never = absurd g
 
-    first : (r : Rec) → GoesOn r (stage (xid_of r) recs) → begun (xid_of r) (r ∷ recs) ≡ true
-    first (Did c y seq d) g = rw (same_xid-refl y) refl
-    first (Back j c y seq row) g = from (Back j c y seq row) (stage y recs) refl g (λ e. e)
+    first : (r : Record) → MayFollow r (stage (xid_of r) recs) → begun (xid_of r) (r ∷ recs) ≡ true
+    first (Does c y seq d) g = rw (same_xid-refl y) refl
+    first (TakesBack j c y seq row) g = from (TakesBack j c y seq row) (stage y recs) refl g (λ e. e)
     first (Commits c y) g = from (Commits c y) (stage y recs) refl g (λ e. e)
-    first (Rolls j c y) g = from (Rolls j c y) (stage y recs) refl g (λ e. e)
+    first (RollsBack j c y) g = from (RollsBack j c y) (stage y recs) refl g (λ e. e)
 
-    more : (w : Xid) (r : Rec) → begun w recs ≡ true → begun w (r ∷ recs) ≡ true
-    more w (Did c y seq d) h = go (same_xid w y)
+    more : (w : Xid) (r : Record) → begun w recs ≡ true → begun w (r ∷ recs) ≡ true
+    more w (Does c y seq d) h = go (same_xid w y)
       where
         go : (t : Bool) → cond t true (begun w recs) ≡ true
         go true = refl
         go false = h
-    more w (Back j c y seq row) h = h
+    more w (TakesBack j c y seq row) h = h
     more w (Commits c y) h = h
-    more w (Rolls j c y) h = h
+    more w (RollsBack j c y) h = h
 
 -- a commit is its record
-pub stage-commit : (P : Rec → Type 0) (y : Xid) (e : ℕ) (recs : List Rec) → AllByRecursion P recs → stage y recs ≡ Over (Some e) → P (Commits e y)
+pub stage-commit : (P : Record → Type 0) (y : Xid) (e : ℕ) (recs : List Record) → AllByRecursion P recs → stage y recs ≡ Over (Some e) → P (Commits e y)
 stage-commit P y e [] h is = (cc)
-stage-commit P y e (Did c x seq d ∷ recs) h is = here (same_xid y x) is (stage-commit P y e recs h.1)
+stage-commit P y e (Does c x seq d ∷ recs) h is = here (same_xid y x) is (stage-commit P y e recs h.1)
   where
     here : (t : Bool) → cond t Active (stage y recs) ≡ Over (Some e) → (stage y recs ≡ Over (Some e) → P (Commits e y)) → P (Commits e y)
     here true is ih = (cc)
     here false is ih = ih is
-stage-commit P y e (Back i c x seq row ∷ recs) h is = stage-commit P y e recs h.1 is
+stage-commit P y e (TakesBack i c x seq row ∷ recs) h is = stage-commit P y e recs h.1 is
 stage-commit P y e (Commits c x ∷ recs) h is = here (same_xid y x) refl is (stage-commit P y e recs h.1)
   where
     here : (t : Bool) → same_xid y x ≡ t → cond t (Over (Some c)) (stage y recs) ≡ Over (Some e) → (stage y recs ≡ Over (Some e) → P (Commits e y)) → P (Commits e y)
     here true f is ih = (let same : c ≡ e = cc in rw (sym same, same_xid-true y x f) h.0)
     here false f is ih = ih is
-stage-commit P y e (Rolls i c x ∷ recs) h is = here (same_xid y x) is (stage-commit P y e recs h.1)
+stage-commit P y e (RollsBack i c x ∷ recs) h is = here (same_xid y x) is (stage-commit P y e recs h.1)
   where
     here : (t : Bool) → cond t (Over None) (stage y recs) ≡ Over (Some e) → (stage y recs ≡ Over (Some e) → P (Commits e y)) → P (Commits e y)
     here true is ih = (cc)
     here false is ih = ih is
 
-module _ {recs : List Rec} {durable : ℕ → ℕ} {stand : Xid → List Deed} {live : Xid → Bool} {mark : Xid → ℕ → List Change} {has_mark : Xid → ℕ → Bool} {committed : Xid → Option ℕ} {has_commit : ℕ → ℕ → Bool}
+module _ {recs : List Record} {durable : ℕ → ℕ} {stand : Xid → List Deed} {live : Xid → Bool} {mark : Xid → ℕ → List Change} {has_mark : Xid → ℕ → Bool} {committed : Xid → Option ℕ} {has_commit : ℕ → ℕ → Bool}
     (txns : Txns recs durable stand live mark has_mark committed has_commit) where
   -- a transaction that may go on hasn't ended
   pub goes-stage : (x : Xid) → MayGoOn recs live x → (stage x recs ≡ Active) ⊎ (stage x recs ≡ Fresh)
@@ -130,11 +130,11 @@ module _ {recs : List Rec} {durable : ℕ → ℕ} {stand : Xid → List Deed} {
     | inr e ↦ (let bad : Fresh ≡ Over o = sym e ∙ f in cc)
   ]
 
-  goes-on : (c : ℕ) (x : Xid) (seq : ℕ) (deed : Deed) → MayGoOn recs live x → GoesOn (Did c x seq deed) (stage x recs)
+  goes-on : (c : ℕ) (x : Xid) (seq : ℕ) (deed : Deed) → MayGoOn recs live x → MayFollow (Does c x seq deed) (stage x recs)
   goes-on c x seq deed goes = elim (goes-stage x goes) [ inl e ↦ rw e tt | inr e ↦ rw e tt ]
 
   -- a record of one that may go on is no commit, and is in its own thread
-  live-own : (x : Xid) (r : Rec) → live x ≡ true → x ≡ xid_of r → RecIsIn recs live r → thread_of r ≡ (xid_of r).seg
+  live-own : (x : Xid) (r : Record) → live x ≡ true → x ≡ xid_of r → RecordIsIn recs live r → thread_of r ≡ (xid_of r).seg
   live-own x r l is h = h.own (rw (sym is) (can (stage x recs) ((txns.each x).active l)))
     where
       can : (st : Stage) → st ≡ Active → CanCommit (live x) st
@@ -142,13 +142,13 @@ module _ {recs : List Rec} {durable : ℕ → ℕ} {stand : Xid → List Deed} {
       can Fresh f = l
       can (Over o) f = (cc)
 
-  goes-rec : (x : Xid) (r : Rec) → MayGoOn recs live x → x ≡ xid_of r → begun (xid_of r) recs ≡ true → RecIsIn recs live r → RecAgrees Active true r
+  goes-rec : (x : Xid) (r : Record) → MayGoOn recs live x → x ≡ xid_of r → begun (xid_of r) recs ≡ true → RecordIsIn recs live r → RecordAgrees Active true r
   goes-rec x r goes is has h = record { ends = ends r is h; own = λ _. own goes }
     where
-      ends : (r : Rec) → x ≡ xid_of r → RecIsIn recs live r → EndsBy Active r
-      ends (Did c y seq d) is h = tt
-      ends (Back i c y seq row) is h = tt
-      ends (Rolls i c y) is h = tt
+      ends : (r : Record) → x ≡ xid_of r → RecordIsIn recs live r → EndsBy Active r
+      ends (Does c y seq d) is h = tt
+      ends (TakesBack i c y seq row) is h = tt
+      ends (RollsBack i c y) is h = tt
       ends (Commits c y) is h = absurd (goes-open x goes (Some c) (ap (λ z. stage z recs) is ∙ h.ends))
 
       own : MayGoOn recs live x → thread_of r ≡ (xid_of r).seg
@@ -157,10 +157,10 @@ module _ {recs : List Rec} {durable : ℕ → ℕ} {stand : Xid → List Deed} {
 
   -- a change or a lock
   pub txns-changes : (c : ℕ) (x : Xid) (seq : ℕ) (deed : Deed) → MayGoOn recs live x
-      → Txns (Did c x seq deed ∷ recs) durable (λ y. cond (same_xid y x) (deed ∷ stand y) (stand y)) (λ y. cond (same_xid y x) true (live y)) mark has_mark committed has_commit
+      → Txns (Does c x seq deed ∷ recs) durable (λ y. cond (same_xid y x) (deed ∷ stand y) (stand y)) (λ y. cond (same_xid y x) true (live y)) mark has_mark committed has_commit
   txns-changes c x seq deed goes = record {
     each = λ y. each y (same_xid y x) refl;
-    records = (first (same_xid x x) (same_xid-refl x), all_both (λ r. begun (xid_of r) recs ≡ true) (RecIsIn recs live) (RecIsIn (Did c x seq deed ∷ recs) (λ y. cond (same_xid y x) true (live y))) recs (λ r has h. rest r has h (same_xid (xid_of r) x) refl) (begun-all recs txns.follows) txns.records);
+    each_record = (first (same_xid x x) (same_xid-refl x), all_both (λ r. begun (xid_of r) recs ≡ true) (RecordIsIn recs live) (RecordIsIn (Does c x seq deed ∷ recs) (λ y. cond (same_xid y x) true (live y))) recs (λ r has h. rest r has h (same_xid (xid_of r) x) refl) (begun-all recs txns.follows) txns.each_record);
     follows = (goes-on c x seq deed goes, txns.follows);
     apart = txns.apart;
   }
@@ -172,20 +172,20 @@ module _ {recs : List Rec} {durable : ℕ → ℕ} {stand : Xid → List Deed} {
       each y false e = txns.each y
       each y true e = subst (λ (y : Xid). TxnAgrees Active (deed ∷ deeds_in (of_xid y (stands recs))) (deed ∷ stand y) true (mark y) (has_mark y) (committed y) (durable y.seg)) (sym (same_xid-true y x e)) at_x
 
-      first : (t : Bool) → t ≡ true → RecAgrees (cond t Active (stage x recs)) (cond t true (live x)) (Did c x seq deed)
+      first : (t : Bool) → t ≡ true → RecordAgrees (cond t Active (stage x recs)) (cond t true (live x)) (Does c x seq deed)
       first true e = record { ends = tt; own = λ _. refl }
       first false e = clash false e refl
 
-      rest : (r : Rec) → begun (xid_of r) recs ≡ true → RecIsIn recs live r → (t : Bool) → same_xid (xid_of r) x ≡ t → RecAgrees (cond t Active (stage (xid_of r) recs)) (cond t true (live (xid_of r))) r
+      rest : (r : Record) → begun (xid_of r) recs ≡ true → RecordIsIn recs live r → (t : Bool) → same_xid (xid_of r) x ≡ t → RecordAgrees (cond t Active (stage (xid_of r) recs)) (cond t true (live (xid_of r))) r
       rest r has h false e = h
       rest r has h true e = goes-rec x r goes (sym (same_xid-true (xid_of r) x e)) has h
 
   -- a step back
-  pub txns-back : (i c : ℕ) (x : Xid) (seq row left : ℕ) (m : Mod) (rest : List Mod) → stage x recs ≡ Active → (live x ≡ true → i ≡ x.seg) → of_xid x (stands recs) ≡ m ∷ rest → of_xid x (without x seq row (stands recs)) ≡ rest → (live x ≡ true → left ≡ length rest)
-      → Txns (Back i c x seq row ∷ recs) durable (λ y. cond (same_xid y x) (drop (length (stand y) - left) (stand y)) (stand y)) live mark has_mark committed has_commit
+  pub txns-back : (i c : ℕ) (x : Xid) (seq row left : ℕ) (m : DeedAt) (rest : List DeedAt) → stage x recs ≡ Active → (live x ≡ true → i ≡ x.seg) → of_xid x (stands recs) ≡ m ∷ rest → of_xid x (without x seq row (stands recs)) ≡ rest → (live x ≡ true → left ≡ length rest)
+      → Txns (TakesBack i c x seq row ∷ recs) durable (λ y. cond (same_xid y x) (drop (length (stand y) - left) (stand y)) (stand y)) live mark has_mark committed has_commit
   txns-back i c x seq row left m rest is own newest less stays = record {
     each = λ y. each y (same_xid y x) refl;
-    records = (record { ends = rw is tt; own = λ can. own (live_of (stage x recs) is can) }, txns.records);
+    each_record = (record { ends = rw is tt; own = λ can. own (live_of (stage x recs) is can) }, txns.each_record);
     follows = (rw is tt, txns.follows);
     apart = txns.apart;
   }
@@ -199,7 +199,7 @@ module _ {recs : List Rec} {durable : ℕ → ℕ} {stand : Xid → List Deed} {
       shorter ds e l = rw (e, l) (let one : length (deeds_in (m ∷ rest)) - length rest ≡ 1 = simp length-map (omega arith) in rw one refl)
 
       stands_x : MayGoOn recs live x → drop (length (stand x) - left) (stand x) ≡ deeds_in rest
-      stands_x (inl l) = shorter (stand x) ((txns.each x).stands (inl l) ∙ ap (λ (ms : List Mod). deeds_in ms) newest) (stays l)
+      stands_x (inl l) = shorter (stand x) ((txns.each x).stands (inl l) ∙ ap (λ (ms : List DeedAt). deeds_in ms) newest) (stays l)
       stands_x (inr f) = absurd (let bad : Active ≡ Fresh = sym is ∙ f in cc)
 
       at_x : TxnAgrees (stage x recs) (deeds_in rest) (drop (length (stand x) - left) (stand x)) (live x) (mark x) (has_mark x) (committed x) (durable x.seg)
@@ -214,7 +214,7 @@ module _ {recs : List Rec} {durable : ℕ → ℕ} {stand : Xid → List Deed} {
       → Txns (Commits c x ∷ recs) durable stand (λ y. cond (same_xid y x) false (live y)) (λ y e. cond (same_xid y x && e == c) (changes_of (stand y)) (mark y e)) (λ y e. (same_xid y x && e == c) || has_mark y e) committed has_commit
   txns-marks c x is late low = record {
     each = λ y. each y (same_xid y x) refl;
-    records = (first (same_xid x x) (same_xid-refl x), all_both (RecIsIn recs live) (λ r. same_xid (xid_of r) x ≡ true → scn_of r < c) (RecIsIn (Commits c x ∷ recs) (λ y. cond (same_xid y x) false (live y))) recs (λ r h low. rest r h low (same_xid (xid_of r) x) refl) txns.records low);
+    each_record = (first (same_xid x x) (same_xid-refl x), all_both (RecordIsIn recs live) (λ r. same_xid (xid_of r) x ≡ true → scn_of r < c) (RecordIsIn (Commits c x ∷ recs) (λ y. cond (same_xid y x) false (live y))) recs (λ r h low. rest r h low (same_xid (xid_of r) x) refl) txns.each_record low);
     follows = (rw act tt, txns.follows);
     apart = txns.apart;
   }
@@ -238,44 +238,44 @@ module _ {recs : List Rec} {durable : ℕ → ℕ} {stand : Xid → List Deed} {
         rolled = λ f. (let bad : ◌≡◌ {A = Option ℕ} (Some c) None = cc in cc);
       })
 
-      first : (t : Bool) → t ≡ true → RecAgrees (cond t (Over (Some c)) (stage x recs)) (cond t false (live x)) (Commits c x)
+      first : (t : Bool) → t ≡ true → RecordAgrees (cond t (Over (Some c)) (stage x recs)) (cond t false (live x)) (Commits c x)
       first true e = record { ends = refl; own = λ _. refl }
       first false e = clash false e refl
 
-      ends : (r : Rec) → x ≡ xid_of r → RecIsIn recs live r → scn_of r < c → EndsBy (Over (Some c)) r
-      ends (Did d y seq deed) same h lt = lt
-      ends (Back i d y seq row) same h lt = lt
-      ends (Rolls i d y) same h lt = tt
+      ends : (r : Record) → x ≡ xid_of r → RecordIsIn recs live r → scn_of r < c → EndsBy (Over (Some c)) r
+      ends (Does d y seq deed) same h lt = lt
+      ends (TakesBack i d y seq row) same h lt = lt
+      ends (RollsBack i d y) same h lt = tt
       ends (Commits d y) same h lt = absurd (active-open x act (Some d) (ap (λ z. stage z recs) same ∙ h.ends))
 
-      rest : (r : Rec) → RecIsIn recs live r → (same_xid (xid_of r) x ≡ true → scn_of r < c) → (t : Bool) → same_xid (xid_of r) x ≡ t → RecAgrees (cond t (Over (Some c)) (stage (xid_of r) recs)) (cond t false (live (xid_of r))) r
+      rest : (r : Record) → RecordIsIn recs live r → (same_xid (xid_of r) x ≡ true → scn_of r < c) → (t : Bool) → same_xid (xid_of r) x ≡ t → RecordAgrees (cond t (Over (Some c)) (stage (xid_of r) recs)) (cond t false (live (xid_of r))) r
       rest r h low false e = h
       rest r h low true e = let same = sym (same_xid-true (xid_of r) x e) in record { ends = ends r same h (low e); own = λ _. live-own x r is same h }
 
   -- the end of a rollback
   pub txns-rolls : (i c : ℕ) (x : Xid) → stage x recs ≡ Active → of_xid x (stands recs) ≡ []
-      → Txns (Rolls i c x ∷ recs) durable stand (λ y. cond (same_xid y x) false (live y)) mark has_mark committed has_commit
+      → Txns (RollsBack i c x ∷ recs) durable stand (λ y. cond (same_xid y x) false (live y)) mark has_mark committed has_commit
   txns-rolls i c x act none = record {
     each = λ y. each y (same_xid y x) refl;
-    records = (first (same_xid x x) (same_xid-refl x), all_map (RecIsIn recs live) (RecIsIn (Rolls i c x ∷ recs) (λ y. cond (same_xid y x) false (live y))) recs (λ r h. rest r h (same_xid (xid_of r) x) refl) txns.records);
+    each_record = (first (same_xid x x) (same_xid-refl x), all_map (RecordIsIn recs live) (RecordIsIn (RollsBack i c x ∷ recs) (λ y. cond (same_xid y x) false (live y))) recs (λ r h. rest r h (same_xid (xid_of r) x) refl) txns.each_record);
     follows = (rw act tt, txns.follows);
     apart = txns.apart;
   }
     where
       each : (y : Xid) (t : Bool) → same_xid y x ≡ t → TxnAgrees (cond t (Over None) (stage y recs)) (deeds_in (of_xid y (stands recs))) (stand y) (cond t false (live y)) (mark y) (has_mark y) (committed y) (durable y.seg)
       each y false e = txns.each y
-      each y true e = rw (same_xid-true y x e) (record { active = λ f. clash false f refl; stands = λ f. elim f [ inl g ↦ clash false g refl | inr g ↦ (cc) ]; marks = λ e f. absurd (let bad : ◌≡◌ {A = Option ℕ} None (Some e) = cc in cc); commits = active-new x act; rolled = λ _. ap (λ (ms : List Mod). deeds_in ms) none })
+      each y true e = rw (same_xid-true y x e) (record { active = λ f. clash false f refl; stands = λ f. elim f [ inl g ↦ clash false g refl | inr g ↦ (cc) ]; marks = λ e f. absurd (let bad : ◌≡◌ {A = Option ℕ} None (Some e) = cc in cc); commits = active-new x act; rolled = λ _. ap (λ (ms : List DeedAt). deeds_in ms) none })
 
-      first : (t : Bool) → t ≡ true → RecAgrees (cond t (Over None) (stage x recs)) (cond t false (live x)) (Rolls i c x)
+      first : (t : Bool) → t ≡ true → RecordAgrees (cond t (Over None) (stage x recs)) (cond t false (live x)) (RollsBack i c x)
       first true e = record { ends = tt; own = λ can. absurd can }
       first false e = clash false e refl
 
-      ends : (r : Rec) → x ≡ xid_of r → RecIsIn recs live r → EndsBy (Over None) r
-      ends (Did d y seq deed) same h = tt
-      ends (Back j d y seq row) same h = tt
-      ends (Rolls j d y) same h = tt
+      ends : (r : Record) → x ≡ xid_of r → RecordIsIn recs live r → EndsBy (Over None) r
+      ends (Does d y seq deed) same h = tt
+      ends (TakesBack j d y seq row) same h = tt
+      ends (RollsBack j d y) same h = tt
       ends (Commits d y) same h = absurd (active-open x act (Some d) (ap (λ z. stage z recs) same ∙ h.ends))
 
-      rest : (r : Rec) → RecIsIn recs live r → (t : Bool) → same_xid (xid_of r) x ≡ t → RecAgrees (cond t (Over None) (stage (xid_of r) recs)) (cond t false (live (xid_of r))) r
+      rest : (r : Record) → RecordIsIn recs live r → (t : Bool) → same_xid (xid_of r) x ≡ t → RecordAgrees (cond t (Over None) (stage (xid_of r) recs)) (cond t false (live (xid_of r))) r
       rest r h false e = h
       rest r h true e = record { ends = ends r (sym (same_xid-true (xid_of r) x e)) h; own = λ can. absurd can }

@@ -4,31 +4,31 @@ use Rattle.std.specs.List.{AllByRecursion}
 use Rattle.base_types.specs.declared.names.Xid.{Xid}
 use Rattle.journal.specs.Past.{same_xid}
 use Rattle.journal.specs.Standing.{is_open}
-use Rattle.board_rows.specs.Board.{Rec, Did, Commits, Rolls, scn_of, xid_of, touches, Over, stage}
+use Rattle.board_rows.specs.Board.{Record, Does, Commits, RollsBack, scn_of, xid_of, touches, Over, stage}
 use Rattle.board_rows.specs.Events.{Board}
 
 -- the SCN of a transaction's end, by a commit or a rollback: all that a header has of it
-abbrev pub ended_after : Xid → Rec → Option ℕ → Option ℕ
-ended_after x (Did c y seq deed) before = if same_xid x y then None else before
-ended_after x (Commits c y) before = if same_xid x y then Some c else before
-ended_after x (Rolls i c y) before = if same_xid x y then Some c else before
-ended_after x _ before = before
+abbrev pub ended_after : Xid → Record → Option ℕ → Option ℕ
+ended_after xid (Does scn other seq deed) before = if same_xid xid other then None else before
+ended_after xid (Commits scn other) before = if same_xid xid other then Some scn else before
+ended_after xid (RollsBack inst scn other) before = if same_xid xid other then Some scn else before
+ended_after xid _ before = before
 
-abbrev pub ended : Xid → List Rec → Option ℕ
-ended x [] = None
-ended x (r ∷ older) = ended_after x r (ended x older)
+abbrev pub ended : Xid → List Record → Option ℕ
+ended xid [] = None
+ended xid (r ∷ older) = ended_after xid r (ended xid older)
 
--- A row k is looked at for s in an image that is the content after the records `there`; the header of x's segment is
+-- A row row is looked at for s in an image that is the content after the records `there`; the header of x's segment is
 -- that after `mid ++ there`, a later moment.
-pub record MayTell (b : Board) (s k : ℕ) (x : Xid) (newer mid there : List Rec) : Type 0 where
-  pub image : b.recs ≡ newer ++ (mid ++ there)
+pub record MayTell (board : Board) (snapshot row : ℕ) (xid : Xid) (newer mid there : List Record) : Type 0 where
+  pub image : board.records ≡ newer ++ (mid ++ there)
   -- each later record on the row has an SCN above s
-  pub later : AllByRecursion (λ r. touches k r ≡ true → s < scn_of r) (newer ++ mid)
+  pub later : AllByRecursion (λ r. touches row r ≡ true → snapshot < scn_of r) (newer ++ mid)
   -- the header's owner was at s or above
-  pub above : AllByRecursion (λ r. (c : ℕ) → r ≡ Commits c x → s < c) newer
-  pub clock : is_open x b.past ≡ true → s ≤ b.scn x.seg
+  pub above : AllByRecursion (λ r. (scn : ℕ) → r ≡ Commits scn xid → snapshot < scn) newer
+  pub clock : is_open xid board.past ≡ true → snapshot ≤ board.clock xid.seg
   -- a commit that a header tells is on the disk
-  pub durable : (e : ℕ) → stage x (mid ++ there) ≡ Over (Some e) → e ≤ s → e ≤ b.durable x.seg
+  pub durable : (end : ℕ) → stage xid (mid ++ there) ≡ Over (Some end) → end ≤ snapshot → end ≤ board.durable xid.seg
   -- the end of a rollback has the last SCN of its transaction
-  pub last : (e : ℕ) → stage x (mid ++ there) ≡ Over None → ended x (mid ++ there) ≡ Some e →
-      AllByRecursion (λ r. same_xid x (xid_of r) ≡ true → scn_of r ≤ e) mid
+  pub last : (end : ℕ) → stage xid (mid ++ there) ≡ Over None → ended xid (mid ++ there) ≡ Some end →
+      AllByRecursion (λ r. same_xid xid (xid_of r) ≡ true → scn_of r ≤ end) mid

@@ -14,48 +14,48 @@ use Rattle.journal.specs.History.{history, marked}
 use Rattle.journal.specs.Sees.{sees, last_of}
 use Rattle.journal.specs.Stood.{stood, is_mark, is_commit_by, acked_up_to, started_up_to, came_up}
 use Rattle.journal.specs.Good.{Range, listed, RowsAreSeen, FoundIsSeen, CommitIsProper, AckIsProper, StartIsProper, RowIsFree, changes_in, Replays}
-use Rattle.board_rows.specs.Board.{Rec, Did, Back, Commits, Rolls, thread_of, scn_of, xid_of, stands, of_xid, Stage, Fresh, Active, Over, stage, begun, on_disk, EachSuffix, Rising, IsSafe}
+use Rattle.board_rows.specs.Board.{Record, Does, TakesBack, Commits, RollsBack, thread_of, scn_of, xid_of, stands, of_xid, Stage, Fresh, Active, Over, stage, begun, on_disk, EachSuffix, Rising, IsSafe}
 use Rattle.board_rows.specs.Rows.{deeds_in, committed_at, Ordered, TableStands, IsMade, FreeUnder, logged}
 use Rattle.board_rows.specs.Numbers.{Numbers, told_in, since_loss, is_deed_of, has_end}
 use Rattle.board_rows.specs.Events.{Board, Scan, IsLate}
 
 -- clocks, and the SCNs of records by thread
-pub record Clocks (recs : List Rec) (scn known durable : ℕ → ℕ) : Type 0 where
-  pub knows : (i : ℕ) → known i ≤ scn i
-  pub lasts : (i : ℕ) → durable i ≤ scn i
-  pub drawn : AllByRecursion (λ r. scn_of r ≤ scn (thread_of r)) recs
-  pub rising : Rising recs
+pub record Clocks (records : List Record) (clock known durable : ℕ → ℕ) : Type 0 where
+  pub knows : (inst : ℕ) → known inst ≤ clock inst
+  pub lasts : (inst : ℕ) → durable inst ≤ clock inst
+  pub drawn : AllByRecursion (λ r. scn_of r ≤ clock (thread_of r)) records
+  pub rising : Rising records
 
 -- an SCN is below that of the commit, where there is one
 abbrev pub IsBelow : ℕ → Stage → Type 0
-IsBelow c (Over (Some e)) = c < e
-IsBelow c _ = Unit {0}
+IsBelow scn (Over (Some commit_scn)) = scn < commit_scn
+IsBelow scn _ = Unit {0}
 
 -- the records of a committed transaction are below its commit
-abbrev pub EndsBy : Stage → Rec → Type 0
-EndsBy st (Commits c x) = st ≡ Over (Some c)
-EndsBy st (Did c x seq deed) = IsBelow c st
-EndsBy st (Back i c x seq row) = IsBelow c st
-EndsBy st (Rolls i c x) = Unit {0}
+abbrev pub EndsBy : Stage → Record → Type 0
+EndsBy st (Commits scn xid) = st ≡ Over (Some scn)
+EndsBy st (Does scn xid seq deed) = IsBelow scn st
+EndsBy st (TakesBack inst scn xid seq row) = IsBelow scn st
+EndsBy st (RollsBack inst scn xid) = Unit {0}
 
 -- a change or lock may be a transaction's first record, and no record follows its end
-abbrev pub GoesOn : Rec → Stage → Type 0
-GoesOn r (Over o) = ⊥
-GoesOn r Active = Unit {0}
-GoesOn (Did c x seq deed) Fresh = Unit {0}
-GoesOn r Fresh = ⊥
+abbrev pub MayFollow : Record → Stage → Type 0
+MayFollow r (Over o) = ⊥
+MayFollow r Active = Unit {0}
+MayFollow (Does scn xid seq deed) Fresh = Unit {0}
+MayFollow r Fresh = ⊥
 
-abbrev pub Follows : List Rec → Type 0
+abbrev pub Follows : List Record → Type 0
 Follows [] = Unit {0}
-Follows (r ∷ older) = GoesOn r (stage (xid_of r) older) × Follows older
+Follows (r ∷ older) = MayFollow r (stage (xid_of r) older) × Follows older
 
 -- a transaction that is open or has no record yet
-abbrev pub MayGoOn : List Rec → (Xid → Bool) → Xid → Type 0
-MayGoOn recs live x = (live x ≡ true) ⊎ (stage x recs ≡ Fresh)
+abbrev pub MayGoOn : List Record → (Xid → Bool) → Xid → Type 0
+MayGoOn records live xid = (live xid ≡ true) ⊎ (stage xid records ≡ Fresh)
 
 -- a transaction that is open or has its commit record
 abbrev pub CanCommit : Bool → Stage → Type 0
-CanCommit live (Over (Some c)) = Unit {0}
+CanCommit live (Over (Some scn)) = Unit {0}
 CanCommit live (Over None) = ⊥
 CanCommit live _ = live ≡ true
 
@@ -70,81 +70,81 @@ pub record TxnAgrees (st : Stage) (deeds stand : List Deed) (live : Bool) (mark 
     (committed : Option ℕ) (upto : ℕ) : Type 0 where
   pub active : live ≡ true → st ≡ Active
   pub stands : (live ≡ true) ⊎ (st ≡ Fresh) → stand ≡ deeds
-  pub marks : (c : ℕ) → st ≡ Over (Some c) → IsMarked (mark c) (has_mark c) deeds
+  pub marks : (scn : ℕ) → st ≡ Over (Some scn) → IsMarked (mark scn) (has_mark scn) deeds
   pub commits : committed ≡ on_disk upto st
   pub rolled : st ≡ Over None → deeds ≡ []
 
 -- what a record says of its transaction
-pub record RecAgrees (st : Stage) (live : Bool) (r : Rec) : Type 0 where
+pub record RecordAgrees (st : Stage) (live : Bool) (r : Record) : Type 0 where
   pub ends : EndsBy st r
   pub own : CanCommit live st → thread_of r ≡ (xid_of r).seg
 
-abbrev pub RecIsIn : List Rec → (Xid → Bool) → Rec → Type 0
-RecIsIn recs live r = RecAgrees (stage (xid_of r) recs) (live (xid_of r)) r
+abbrev pub RecordIsIn : List Record → (Xid → Bool) → Record → Type 0
+RecordIsIn records live r = RecordAgrees (stage (xid_of r) records) (live (xid_of r)) r
 
 -- the transactions of the journal are those of the board
-pub record Txns (recs : List Rec) (durable : ℕ → ℕ) (stand : Xid → List Deed) (live : Xid → Bool)
+pub record Txns (records : List Record) (durable : ℕ → ℕ) (stand : Xid → List Deed) (live : Xid → Bool)
     (mark : Xid → ℕ → List Change) (has_mark : Xid → ℕ → Bool) (committed : Xid → Option ℕ)
     (has_commit : ℕ → ℕ → Bool) : Type 0 where
-  pub each : (x : Xid) → TxnAgrees (stage x recs) (deeds_in (of_xid x (stands recs))) (stand x) (live x) (mark x) (has_mark x) (committed x) (durable x.seg)
-  pub records : AllByRecursion (RecIsIn recs live) recs
-  pub follows : Follows recs
-  pub apart : (c i : ℕ) → durable i < c → has_commit c i ≡ false
+  pub each : (xid : Xid) → TxnAgrees (stage xid records) (deeds_in (of_xid xid (stands records))) (stand xid) (live xid) (mark xid) (has_mark xid) (committed xid) (durable xid.seg)
+  pub each_record : AllByRecursion (RecordIsIn records live) records
+  pub follows : Follows records
+  pub apart : (scn inst : ℕ) → durable inst < scn → has_commit scn inst ≡ false
 
 -- Under a change or lock each record that another thread has for its segment has entered, so no loss takes it away.
-abbrev pub IsOnSafe : (ℕ → ℕ) → Rec → List Rec → Type 0
-IsOnSafe durable (Did c x seq deed) older = AllByRecursion (λ o. (xid_of o).seg ≡ x.seg → IsSafe durable o) older
+abbrev pub IsOnSafe : (ℕ → ℕ) → Record → List Record → Type 0
+IsOnSafe durable (Does scn xid seq deed) older = AllByRecursion (λ o. (xid_of o).seg ≡ xid.seg → IsSafe durable o) older
 IsOnSafe durable _ older = Unit {0}
 
-abbrev pub AreOnSafe : (ℕ → ℕ) → List Rec → Type 0
+abbrev pub AreOnSafe : (ℕ → ℕ) → List Record → Type 0
 AreOnSafe durable [] = Unit {0}
 AreOnSafe durable (r ∷ older) = IsOnSafe durable r older × AreOnSafe durable older
 
 -- The transactions of an instance that is up are open until they end, and those of one that is down aren't open; what
 -- other threads have for the segment of an instance that is up has entered.
-pub record Segments (recs : List Rec) (durable : ℕ → ℕ) (live : Xid → Bool) (up : ℕ → Bool) : Type 0 where
-  pub lives : (x : Xid) → live x ≡ true → up x.seg ≡ true
-  pub active : (x : Xid) → stage x recs ≡ Active → up x.seg ≡ true → live x ≡ true
-  pub safe : AllByRecursion (λ r. up (xid_of r).seg ≡ true → IsSafe durable r) recs
-  pub under : AreOnSafe durable recs
+pub record Segments (records : List Record) (durable : ℕ → ℕ) (live : Xid → Bool) (up : ℕ → Bool) : Type 0 where
+  pub lives : (xid : Xid) → live xid ≡ true → up xid.seg ≡ true
+  pub active : (xid : Xid) → stage xid records ≡ Active → up xid.seg ≡ true → live xid ≡ true
+  pub safe : AllByRecursion (λ r. up (xid_of r).seg ≡ true → IsSafe durable r) records
+  pub under : AreOnSafe durable records
 
 -- the last transactions of the sessions
 pub record Sessions (begins : Xid → Bool) (last : ℕ → Option Xid) (home : ℕ → Option ℕ) : Type 0 where
-  pub used : (z : ℕ) (x : Xid) → last z ≡ Some x → begins x ≡ true
-  pub single : (y z : ℕ) (x : Xid) → last y ≡ Some x → last z ≡ Some x → y ≡ z
-  pub at_home : (z : ℕ) (x : Xid) → last z ≡ Some x → home z ≡ Some x.seg
+  pub used : (session : ℕ) (xid : Xid) → last session ≡ Some xid → begins xid ≡ true
+  pub single : (other session : ℕ) (xid : Xid) → last other ≡ Some xid → last session ≡ Some xid → other ≡ session
+  pub at_home : (session : ℕ) (xid : Xid) → last session ≡ Some xid → home session ≡ Some xid.seg
 
 -- the table is what stands of the commits
-pub record RowsStand (recs : List Rec) (committed : Xid → Option ℕ) (commits : List Commit) : Type 0 where
-  pub order : EachSuffix (λ older. Ordered committed (stands older)) recs
-  pub deeds_replay : EachSuffix (λ older. Replays (changes_of (deeds_in (stands older)))) recs
-  pub table : TableStands committed commits (stands recs)
-  pub made : AllByRecursion (IsMade committed (stands recs)) commits
+pub record RowsStand (records : List Record) (committed : Xid → Option ℕ) (commits : List Commit) : Type 0 where
+  pub order : EachSuffix (λ older. Ordered committed (stands older)) records
+  pub deeds_replay : EachSuffix (λ older. Replays (changes_of (deeds_in (stands older)))) records
+  pub table : TableStands committed commits (stands records)
+  pub made : AllByRecursion (IsMade committed (stands records)) commits
   pub replay : Replays (changes_in commits)
 
 -- no commit will change what was read: what stands in a row and isn't committed commits above each SCN at which the
 -- row was read
-abbrev pub RowsAreLate : List Rec → (ℕ → ℕ) → (ℕ → ℕ) → (Xid → Bool) → (Xid → Option ℕ) → Type 0
-RowsAreLate recs scn floor live committed =
-    AllByRecursion (λ m. committed m.xid ≡ None → IsLate (floor (row_of m.deed)) (live m.xid) (stage m.xid recs) (scn m.xid.seg)) (stands recs)
+abbrev pub RowsAreLate : List Record → (ℕ → ℕ) → (ℕ → ℕ) → (Xid → Bool) → (Xid → Option ℕ) → Type 0
+RowsAreLate records clock floor live committed =
+    AllByRecursion (λ m. committed m.xid ≡ None → IsLate (floor (row_of m.deed)) (live m.xid) (stage m.xid records) (clock m.xid.seg)) (stands records)
 
 -- starts are at or above what was answered before
 pub record Starts (insts : ℕ) (known : ℕ → ℕ) (home : ℕ → Option ℕ) (started : ℕ → ℕ) (came : ℕ → Bool)
     (up : ℕ → Bool) (acked : ℕ) : Type 0 where
   pub acks : (j : ℕ) → j < insts → up j ≡ true → acked ≤ known j
-  pub starts : (z i : ℕ) → home z ≡ Some i → came z ≡ false → up i ≡ true → started z ≤ known i
-  pub unopened : (z : ℕ) → home z ≡ None → started z ≡ 0
-  pub homes : (z i : ℕ) → home z ≡ Some i → i < insts
+  pub starts : (session inst : ℕ) → home session ≡ Some inst → came session ≡ false → up inst ≡ true → started session ≤ known inst
+  pub unopened : (session : ℕ) → home session ≡ None → started session ≡ 0
+  pub homes : (session inst : ℕ) → home session ≡ Some inst → inst < insts
 
 -- rows were read at an SCN
 abbrev pub AreRead : (ℕ → ℕ) → ℕ → ℕ → ℕ → Type 0
-AreRead floor s first count = (k : ℕ) → first ≤ k → k < first + count → s ≤ floor k
+AreRead floor snapshot first count = (row : ℕ) → first ≤ row → row < first + count → snapshot ≤ floor row
 
 -- the rows that an entry tells of were read at the SCN of its statement
 abbrev pub IsRead : (ℕ → Option Range) → (ℕ → ℕ) → Past → Entry → Type 0
-IsRead asked floor past (Rows n rows) =
-    IsSomeAnd (asked n) (λ range. IsSomeAnd (start_of n past) (λ start. AreRead floor start.snapshot range.first range.count))
-IsRead asked floor past (Changed n x row found new) = IsSomeAnd (start_of n past) (λ start. start.snapshot ≤ floor row)
+IsRead asked floor past (Rows stmt rows) =
+    IsSomeAnd (asked stmt) (λ range. IsSomeAnd (start_of stmt past) (λ start. AreRead floor start.snapshot range.first range.count))
+IsRead asked floor past (Changed stmt xid row found new) = IsSomeAnd (start_of stmt past) (λ start. start.snapshot ≤ floor row)
 IsRead asked floor past _ = Unit {0}
 
 -- what a session has read is what it sees
@@ -157,7 +157,7 @@ pub record Answers (asked : ℕ → Option Range) (floor : ℕ → ℕ) (scan : 
   pub rows : Each (RowsAreSeen asked commits) past
   pub found : Each (FoundIsSeen commits) past
   pub read : Each (IsRead asked floor) past
-  pub scans : (z : ℕ) → ScanIsSeen floor (scan z) (λ s. sees commits past (record { session = z; snapshot = s }))
+  pub scans : (session : ℕ) → ScanIsSeen floor (scan session) (λ snapshot. sees commits past (record { session = session; snapshot = snapshot }))
 
 pub record IsProper (past : Past) : Type 0 where
   pub commits : Each CommitIsProper past
@@ -165,20 +165,20 @@ pub record IsProper (past : Past) : Type 0 where
   pub starts : Each StartIsProper past
   pub row_locks : Each RowIsFree past
 
-pub record Sound (asked : ℕ → Option Range) (insts : ℕ) (b : Board) : Type 0 where
-  pub clocks : Clocks b.recs b.scn b.known b.durable
-  pub txns : Txns b.recs b.durable (λ x. standing x b.past) (λ x. is_open x b.past) (λ x c. marked x c b.past)
-      (λ x c. stood (is_mark x c) b.past) (λ x. committed_at x b.past) (λ c i. stood (is_commit_by c i) b.past)
-  pub sessions : Sessions (λ x. begun x b.recs) (λ z. last_of z b.past) (λ z. home_of z b.past)
-  pub segments : Segments b.recs b.durable (λ x. is_open x b.past) (λ i. is_up i b.past)
-  pub rows : RowsStand b.recs (λ x. committed_at x b.past) (history b.past)
-  pub owns : (z : ℕ) (x : Xid) → last_of z b.past ≡ Some x → is_open x b.past ≡ true →
-      EachSuffix (λ older. FreeUnder (λ y. committed_at y b.past) (started_up_to z b.past) x (stands older)) b.recs
-  pub log_history : history b.past ≡ logged b.durable b.recs
-  pub numbers : Numbers b.recs (λ i. told_in i b.past) (λ i. since_loss i b.past) (λ x. stood (is_deed_of x) b.past)
-      (λ x. has_end x b.past)
-  pub late : RowsAreLate b.recs b.scn b.floor (λ x. is_open x b.past) (λ x. committed_at x b.past)
-  pub starts : Starts insts b.known (λ z. home_of z b.past) (λ z. started_up_to z b.past) (λ z. came_up z b.past)
-      (λ i. is_up i b.past) (acked_up_to b.past)
-  pub answers : Answers asked b.floor b.scan b.past (history b.past)
-  pub proper : IsProper b.past
+pub record Sound (asked : ℕ → Option Range) (insts : ℕ) (board : Board) : Type 0 where
+  pub clocks : Clocks board.records board.clock board.known board.durable
+  pub txns : Txns board.records board.durable (λ xid. standing xid board.past) (λ xid. is_open xid board.past) (λ xid scn. marked xid scn board.past)
+      (λ xid scn. stood (is_mark xid scn) board.past) (λ xid. committed_at xid board.past) (λ scn inst. stood (is_commit_by scn inst) board.past)
+  pub sessions : Sessions (λ xid. begun xid board.records) (λ session. last_of session board.past) (λ session. home_of session board.past)
+  pub segments : Segments board.records board.durable (λ xid. is_open xid board.past) (λ inst. is_up inst board.past)
+  pub rows : RowsStand board.records (λ xid. committed_at xid board.past) (history board.past)
+  pub owns : (session : ℕ) (xid : Xid) → last_of session board.past ≡ Some xid → is_open xid board.past ≡ true →
+      EachSuffix (λ older. FreeUnder (λ other. committed_at other board.past) (started_up_to session board.past) xid (stands older)) board.records
+  pub log_history : history board.past ≡ logged board.durable board.records
+  pub numbers : Numbers board.records (λ inst. told_in inst board.past) (λ inst. since_loss inst board.past) (λ xid. stood (is_deed_of xid) board.past)
+      (λ xid. has_end xid board.past)
+  pub late : RowsAreLate board.records board.clock board.floor (λ xid. is_open xid board.past) (λ xid. committed_at xid board.past)
+  pub starts : Starts insts board.known (λ session. home_of session board.past) (λ session. started_up_to session board.past) (λ session. came_up session board.past)
+      (λ inst. is_up inst board.past) (acked_up_to board.past)
+  pub answers : Answers asked board.floor board.scan board.past (history board.past)
+  pub proper : IsProper board.past
