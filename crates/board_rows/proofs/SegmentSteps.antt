@@ -7,12 +7,12 @@ use Rattle.base_types.specs.declared.names.Xid.{Xid}
 use Rattle.journal.specs.Past.{same_xid}
 use Rattle.journal.specs.declared.deeds.Deed.{Deed}
 use Rattle.journal.proofs.XidLemmas.{same_xid-true}
-use Rattle.board_rows.specs.Board.{Record, Does, TakesBack, Commits, RollsBack, thread_of, scn_of, xid_of, Stage, Active, Over, stage, IsSafe}
-use Rattle.board_rows.specs.Events.{put}
+use Rattle.board_rows.specs.Board.{Record, Does, TakesBack, Commits, RollsBack, thread_of, scn_of, xid_of, Stage, Active, Over, stage, Rising, IsSafe}
+use Rattle.board_rows.specs.Events.{put, KeepsSegment, KeepsSegments}
 use Rattle.board_rows.specs.Sound.{Segments, IsOnSafe, AreOnSafe}
 use Rattle.board_rows.proofs.Shown.{all_map, all_both, clash}
 use Rattle.board_rows.proofs.ClockSteps.{put-rises}
-use Rattle.board_rows.proofs.Losses.{all_filter, Kept, kept-other, kept-low, AllKept, stage-kept}
+use Rattle.board_rows.proofs.Losses.{all_filter, Kept, older-kept, kept-other, kept-low, AllKept, stage-kept}
 
 -- what is safe stays so as more enters
 safe-more : (old now : ℕ → ℕ) → ((j : ℕ) → old j ≤ now j) → (r : Record) → IsSafe old r → IsSafe now r
@@ -27,6 +27,14 @@ under-more old now rise (r ∷ recs) h = (one r h.0, under-more old now rise rec
     one (TakesBack i c x seq row) h = tt
     one (Commits c x) h = tt
     one (RollsBack i c x) h = tt
+
+-- what has entered is kept
+safe-kept : (i kept : ℕ) (durable : ℕ → ℕ) → durable i ≤ kept → (r : Record) → scn_of r ≤ durable (thread_of r) → Kept i kept r ≡ true
+safe-kept i kept durable low r le = here (thread_of r == i) refl le
+  where
+    here : (t : Bool) → (thread_of r == i) ≡ t → scn_of r ≤ durable (thread_of r) → Kept i kept r ≡ true
+    here false e le = kept-other i kept r e
+    here true e le = kept-low i kept r (let at_i : scn_of r ≤ durable i = rw (eqb-true (thread_of r) i e) at le in omega (arith, at_i, low))
 
 under-kept : (i kept : ℕ) (durable : ℕ → ℕ) (recs : List Record) → AreOnSafe durable recs → AreOnSafe durable (filter (Kept i kept) recs)
 under-kept i kept durable [] h = tt
@@ -117,13 +125,8 @@ module _ {recs : List Record} {durable : ℕ → ℕ} {live : Xid → Bool} {up 
       lives y true e = e
       lives y false e = h.lives y e
 
-      -- what is safe is kept, where its segment isn't that of the lost instance
       kept-safe : (r : Record) → ((xid_of r).seg == i) ≡ false → IsSafe durable r → Kept i kept r ≡ true
-      kept-safe r off safe = elim safe [ inl e ↦ kept-other i kept r (rw e off) | inr le ↦ here (thread_of r == i) refl le ]
-        where
-          here : (t : Bool) → (thread_of r == i) ≡ t → scn_of r ≤ durable (thread_of r) → Kept i kept r ≡ true
-          here false e le = kept-other i kept r e
-          here true e le = kept-low i kept r (let at_i : scn_of r ≤ durable i = rw (eqb-true (thread_of r) i e) at le in omega (arith, at_i, low))
+      kept-safe r off safe = elim safe [ inl e ↦ kept-other i kept r (rw e off) | inr le ↦ safe-kept i kept durable low r le ]
 
       all-kept : (y : Xid) → (y.seg == i) ≡ false → up y.seg ≡ true → AllKept i kept y recs
       all-kept y off is = all_map WasSafe (λ r. same_xid y (xid_of r) ≡ true → Kept i kept r ≡ true) recs (λ r f e. one r (same_xid-true y (xid_of r) e) f) h.safe
@@ -154,3 +157,17 @@ module _ {recs : List Record} {durable : ℕ → ℕ} {live : Xid → Bool} {up 
       one : (r : Record) → ((xid_of r).seg ≡ i → IsSafe durable r) → (up (xid_of r).seg ≡ true → IsSafe durable r) → (t : Bool) → ((xid_of r).seg == i) ≡ t → cond t true (up (xid_of r).seg) ≡ true → IsSafe durable r
       one r new old true f is = new (eqb-true (xid_of r).seg i f)
       one r new old false f is = old is
+
+-- what a loss keeps of a segment
+pub keeps-segments : (i kept : ℕ) (durable : ℕ → ℕ) → durable i ≤ kept → (recs : List Record) → Rising recs → AreOnSafe durable recs → KeepsSegments i kept recs
+keeps-segments i kept durable low [] rising under = tt
+keeps-segments i kept durable low (r ∷ recs) rising under = (one r rising.0 under.0, keeps-segments i kept durable low recs rising.1 under.1)
+  where
+    one : (r : Record) → AllByRecursion (λ o. thread_of o ≡ thread_of r → scn_of o < scn_of r) recs → IsOnSafe durable r recs → KeepsSegment i kept r recs
+    one (Does c x seq d) older safe = λ k.
+        all_both (λ o. thread_of o ≡ x.seg → Kept i kept o ≡ true) (λ o. (xid_of o).seg ≡ x.seg → IsSafe durable o) (λ o. (xid_of o).seg ≡ x.seg → Kept i kept o ≡ true) recs
+        (λ o same f e. elim (f e) [ inl own ↦ same (own ∙ e) | inr le ↦ safe-kept i kept durable low o le ])
+        (older-kept i kept (Does c x seq d) recs k older) safe
+    one (TakesBack j c x seq row) older safe = tt
+    one (Commits c x) older safe = tt
+    one (RollsBack j c x) older safe = tt

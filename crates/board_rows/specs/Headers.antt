@@ -18,16 +18,18 @@ abbrev pub ended : Xid → List Record → Option ℕ
 ended xid [] = None
 ended xid (r ∷ older) = ended_after xid r (ended xid older)
 
--- A row row is looked at for s in an image that is the content after the records `there`; the header of x's segment is
--- that after `mid ++ there`, a later moment.
+-- A row is looked at for a snapshot in an image that is the content after the records `there`; the header of a
+-- transaction's segment is that after `mid ++ there`, a later moment.
 pub record MayTell (board : Board) (snapshot row : ℕ) (xid : Xid) (newer mid there : List Record) : Type 0 where
+  -- the header is of some moment up to now
   pub image : board.records ≡ newer ++ (mid ++ there)
-  -- each later record on the row has an SCN above s
+  -- what came to the row since the image is above the snapshot
   pub later : AllByRecursion (λ r. touches row r ≡ true → snapshot < scn_of r) (newer ++ mid)
-  -- the header's owner was at s or above
+  -- a commit since the header is above the snapshot
   pub above : AllByRecursion (λ r. (scn : ℕ) → r ≡ Commits scn xid → snapshot < scn) newer
+  -- and so will be one that comes yet
   pub clock : is_open xid board.past ≡ true → snapshot ≤ board.clock xid.seg
-  -- a commit that a header tells is on the disk
+  -- a commit that the header tells up to the snapshot is durable
   pub durable : (end : ℕ) → stage xid (mid ++ there) ≡ Over (Some end) → end ≤ snapshot → end ≤ board.durable xid.seg
   -- the end of a rollback has the last SCN of its transaction
   pub last : (end : ℕ) → stage xid (mid ++ there) ≡ Over None → ended xid (mid ++ there) ≡ Some end →

@@ -7,7 +7,7 @@ ghost use Rattle.journal.specs.Sees.{sees};
 ghost use Rattle.journal.specs.Good.{Range, GoodRows, GoodJournal};
 ghost use Rattle.board_rows.specs.Board.{Record, DeedAt, stands};
 ghost use Rattle.board_rows.specs.Rows.{on, logged, committed_at, is_up_to, seen_at};
-ghost use Rattle.board_rows.specs.Events.{Board, Event, May, MayLook, IsLateHere, value_there, after, nothing, Leads};
+ghost use Rattle.board_rows.specs.Events.{Board, Event, May, MayLook, MayLose, KeepsSegments, IsLateHere, value_there, after, nothing, Leads};
 ghost use Rattle.board_rows.specs.Headers.{ended, MayTell};
 ghost use Rattle.board_rows.specs.Sound.{Sound};
 
@@ -49,4 +49,11 @@ pub fn headers_tell_who_has_committed()
         Sound asked insts board → MayTell board snapshot row xid newer mid there →
         stands there ≡ more ++ m ∷ older → on row m ≡ true → same_xid xid m.xid ≡ true →
         (is_up_to snapshot (ended xid (mid ++ there)) ≡ seen_at snapshot (λ other. committed_at other board.past) xid) × IsLateHere board snapshot xid }
+{}
+
+/// A loss takes no end of a segment from under a change or lock of that segment which it keeps: the next transaction of a
+/// slot never stands where the one before has no end.
+pub fn losses_keep_what_segments_stand_on()
+    ensures { (asked : ℕ → Option Range) (insts : ℕ) (board : Board) (inst kept : ℕ) →
+        Sound asked insts board → MayLose board inst kept → KeepsSegments inst kept board.records }
 {}
