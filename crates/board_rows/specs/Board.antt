@@ -14,18 +14,21 @@ pub data Record : Type 0 where
   Commits : (scn : ℕ) (xid : Xid) → Record
   RollsBack : (inst scn : ℕ) (xid : Xid) → Record
 
+-- the thread that a record is in
 abbrev pub thread_of : Record → ℕ
 thread_of (Does scn xid seq deed) = xid.seg
 thread_of (TakesBack inst scn xid seq row) = inst
 thread_of (Commits scn xid) = xid.seg
 thread_of (RollsBack inst scn xid) = inst
 
+-- its SCN
 abbrev pub scn_of : Record → ℕ
 scn_of (Does scn xid seq deed) = scn
 scn_of (TakesBack inst scn xid seq row) = scn
 scn_of (Commits scn xid) = scn
 scn_of (RollsBack inst scn xid) = scn
 
+-- the transaction that it is of
 abbrev pub xid_of : Record → Xid
 xid_of (Does scn xid seq deed) = xid
 xid_of (TakesBack inst scn xid seq row) = xid
@@ -49,6 +52,7 @@ pub record DeedAt : Type 0 where
 abbrev pub is_that : Xid → ℕ → ℕ → DeedAt → Bool
 is_that xid seq row m = same_xid xid m.xid && (seq == m.seq && row == row_of m.deed)
 
+-- all but that one
 abbrev pub without : Xid → ℕ → ℕ → List DeedAt → List DeedAt
 without xid seq row [] = []
 without xid seq row (m ∷ deeds) = if is_that xid seq row m then deeds else m ∷ without xid seq row deeds

@@ -25,7 +25,7 @@ pub record Scan : Type 0 where
   pub rows : List (ℕ × Value)
 
 -- The state of all instances, as far as rows go. `durable` counts a record once its commit has entered the journal,
--- which can be later than it reached the disk. `floor` rises at each use of a row, by whichever image, and at its changes.
+-- which can be later than it reached the disk. `floor` rises at each use of a row, by whichever image, and at changes.
 pub record Board : Type 0 where
   pub records : List Record  -- the newest first
   pub durable : ℕ → ℕ  -- by thread: its records up to this SCN have entered
@@ -53,7 +53,9 @@ IsLate snapshot live _ clock = live ≡ true → snapshot ≤ clock
 
 -- that, on a board, of a transaction
 abbrev pub IsLateHere : Board → ℕ → Xid → Type 0
-IsLateHere board snapshot xid = committed_at xid board.past ≡ None → IsLate snapshot (is_open xid board.past) (stage xid board.records) (board.clock xid.seg)
+IsLateHere board snapshot xid =
+    committed_at xid board.past ≡ None
+    → IsLate snapshot (is_open xid board.past) (stage xid board.records) (board.clock xid.seg)
 
 -- how an instance is lost: it crashes, as a line asks, or a fault or a bad block ends it
 pub data Loss : Type 0 where
@@ -119,9 +121,10 @@ pub record MayStart (board : Board) (session inst least : ℕ) : Type 0 where
   -- the SCN asked for is one that the clock has reached
   pub low : least ≤ board.clock inst
 
--- A row is looked at for a session on an instance, at a snapshot. The image is the content of its block after the records
--- `there`, and `status` is what headers told of who has committed up to the snapshot.
-pub record MayLook (board : Board) (session inst snapshot row : ℕ) (newer there : List Record) (status : Xid → Bool) : Type 0 where
+-- A row is looked at for a session on an instance, at a snapshot. The image is the content of its block after the
+-- records `there`, and `status` is what headers told of who has committed up to the snapshot.
+pub record MayLook (board : Board) (session inst snapshot row : ℕ) (newer there : List Record)
+    (status : Xid → Bool) : Type 0 where
   -- the session is on this instance
   pub home : home_of session board.past ≡ Some inst
   -- the snapshot is one that its clock has reached
@@ -129,17 +132,21 @@ pub record MayLook (board : Board) (session inst snapshot row : ℕ) (newer ther
   -- the image is of some moment up to now
   pub image : board.records ≡ newer ++ there
   -- what came to the row since is above the snapshot, and isn't the session's own
-  pub later : AllByRecursion (λ r. touches row r ≡ true → (snapshot < scn_of r) × (is_own (own session board.past) (xid_of r) ≡ false)) newer
+  pub later : AllByRecursion (λ r. touches row r ≡ true →
+      (snapshot < scn_of r) × (is_own (own session board.past) (xid_of r) ≡ false)) newer
   -- of each deed that stands in the image it is right who has committed, and who hasn't will commit above the snapshot
   pub told : AllByRecursion (λ m. on row m ≡ true → (is_own (own session board.past) m.xid ≡ true)
-      ⊎ ((status m.xid ≡ seen_at snapshot (λ xid. committed_at xid board.past) m.xid) × IsLateHere board snapshot m.xid)) (stands there)
+      ⊎ ((status m.xid ≡ seen_at snapshot (λ xid. committed_at xid board.past) m.xid)
+      × IsLateHere board snapshot m.xid)) (stands there)
 
 -- what is read there
 abbrev pub value_there : Board → ℕ → ℕ → List Record → (Xid → Bool) → Value
-value_there board session row there status = value_by (changes_of (shown row (λ xid. is_own (own session board.past) xid || status xid) (stands there))) row
+value_there board session row there status =
+    value_by (changes_of (shown row (λ xid. is_own (own session board.past) xid || status xid) (stands there))) row
 
 -- A session reads the next row of its statement.
-pub record MayRead (board : Board) (session inst row : ℕ) (newer there : List Record) (status : Xid → Bool) : Type 0 where
+pub record MayRead (board : Board) (session inst row : ℕ) (newer there : List Record)
+    (status : Xid → Bool) : Type 0 where
   -- the look is right at its snapshot
   pub look : MayLook board session inst (board.scan session).snapshot row newer there status
   -- rows are read in order
@@ -161,7 +168,8 @@ pub record MayChange (board : Board) (stmt session snapshot : ℕ) (xid : Xid) (
   -- the snapshot is one that its clock has reached
   pub low : snapshot ≤ board.clock xid.seg
   -- the transaction is the session's own; or it has none, and this one is new: the next of its slot
-  pub mine : (own session board.past ≡ Some xid) ⊎ ((own session board.past ≡ None) × (stage xid board.records ≡ Fresh) × (xid.wrap ≡ suc (wrap_in xid.seg xid.slot board.records)))
+  pub mine : (own session board.past ≡ Some xid) ⊎ ((own session board.past ≡ None)
+      × (stage xid board.records ≡ Fresh) × (xid.wrap ≡ suc (wrap_in xid.seg xid.slot board.records)))
   -- deeds are numbered in their segment
   pub next : number ≡ suc (length (recorded_in xid.seg board.records))
   -- the snapshot is the highest of the session
@@ -248,7 +256,8 @@ AreNear r o = ((row : ℕ) × (touches row r ≡ true) × (touches row o ≡ tru
 abbrev pub LosesNewest : ℕ → ℕ → List Record → Type 0
 LosesNewest inst kept [] = Unit {0}
 LosesNewest inst kept (r ∷ older) =
-    (thread_of r ≢ inst → AllByRecursion (λ o. AreNear r o → is_kept inst kept o ≡ true) older) × LosesNewest inst kept older
+    (thread_of r ≢ inst → AllByRecursion (λ o. AreNear r o → is_kept inst kept o ≡ true) older)
+    × LosesNewest inst kept older
 
 -- the records that are there after a loss
 abbrev pub kept_of : ℕ → ℕ → List Record → List Record
@@ -261,6 +270,7 @@ KeepsSegment inst kept (Does scn xid seq deed) older =
     → AllByRecursion (λ o. (xid_of o).seg ≡ xid.seg → is_kept inst kept o ≡ true) older
 KeepsSegment inst kept _ older = Unit {0}
 
+-- so it is under each change or lock
 abbrev pub KeepsSegments : ℕ → ℕ → List Record → Type 0
 KeepsSegments inst kept [] = Unit {0}
 KeepsSegments inst kept (r ∷ older) = KeepsSegment inst kept r older × KeepsSegments inst kept older
@@ -373,7 +383,8 @@ after board (changes stmt session snapshot xid seq deed) =
       scan = put board.scan session (unread (board.scan session).snapshot (board.scan session).first);
       past = entry_of stmt xid deed ∷ board.past;
     }
-after board (takes_back inst xid seq row left) = recorded board inst (TakesBack inst (board.clock inst + 1) xid seq row) (Undone xid left) xid
+after board (takes_back inst xid seq row left) =
+    recorded board inst (TakesBack inst (board.clock inst + 1) xid seq row) (Undone xid left) xid
 after board (marks stmt xid) =
     recorded board xid.seg (Commits (board.clock xid.seg + 1) xid) (Marked stmt xid (board.clock xid.seg + 1)) xid
 after board (rolls inst xid) = recorded board inst (RollsBack inst (board.clock inst + 1) xid) (Rolled xid) xid
@@ -393,7 +404,8 @@ after board (loses inst kept loss) =
       scan = λ session. anew (is_home session inst board.past) (board.scan session);
       past = entry_of_loss inst loss ∷ board.past;
     }
-after board (joins inst scn known) = record board { clock = put board.clock inst scn; known = put board.known inst known }
+after board (joins inst scn known) =
+    record board { clock = put board.clock inst scn; known = put board.known inst known }
 after board (ups line inst) = told board (Up line inst)
 
 -- the first board: nothing has happened
@@ -412,4 +424,5 @@ nothing =
 -- a run of events leads from a board to another, each of them where it may come
 abbrev pub Leads : (ℕ → Option Range) → ℕ → Board → List Event → Board → Type 0
 Leads asked insts board [] end = board ≡ end
-Leads asked insts board (event ∷ events) end = May asked insts board event × Leads asked insts (after board event) events end
+Leads asked insts board (event ∷ events) end =
+    May asked insts board event × Leads asked insts (after board event) events end

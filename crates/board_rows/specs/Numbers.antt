@@ -53,7 +53,8 @@ IsWithin (deed ∷ deeds) (first ∷ told) = ((deed ≡ first) × IsWithin deeds
 
 -- the greatest wrap of a slot that has a record
 abbrev pub wrap_after : ℕ → ℕ → Record → ℕ → ℕ
-wrap_after seg slot (Does scn xid seq deed) before = if seg == xid.seg && slot == xid.slot then max xid.wrap before else before
+wrap_after seg slot (Does scn xid seq deed) before =
+    if seg == xid.seg && slot == xid.slot then max xid.wrap before else before
 wrap_after seg slot _ before = before
 
 abbrev pub wrap_in : ℕ → ℕ → List Record → ℕ
@@ -66,6 +67,7 @@ is_deed_of xid (Changed stmt other row found new) = same_xid xid other
 is_deed_of xid (Locked stmt other row) = same_xid xid other
 is_deed_of xid _ = false
 
+-- the transaction of a slot with a wrap
 abbrev pub xid_at : ℕ → ℕ → ℕ → Xid
 xid_at seg slot wrap = record { seg = seg; slot = slot; wrap = wrap }
 
@@ -81,7 +83,8 @@ has_end xid (e ∷ past) = end_after xid e (has_end xid past)
 
 -- The numbers of a segment's deeds, in the records and in the journal, and the wraps of its slots; who has ended since
 -- the loss of its instance has a record.
-pub record Numbers (records : List Record) (told since : ℕ → List (Xid × Deed)) (has_deed has_end : Xid → Bool) : Type 0 where
+pub record Numbers (records : List Record) (told since : ℕ → List (Xid × Deed))
+    (has_deed has_end : Xid → Bool) : Type 0 where
   pub numbered : Numbered records
   pub newest : (inst : ℕ) → (rest : List (Xid × Deed)) × (recorded_in inst records ≡ since inst ++ rest)
   pub within : (inst : ℕ) → IsWithin (recorded_in inst records) (told inst)

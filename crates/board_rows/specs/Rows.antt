@@ -16,6 +16,7 @@ use Rattle.board_rows.specs.Board.{Record, Commits, DeedAt, of_xid, stands}
 abbrev pub on : ℕ → DeedAt → Bool
 on row m = row_of m.deed == row
 
+-- what they did
 abbrev pub deeds_in : List DeedAt → List Deed
 deeds_in deeds = map (λ m. m.deed) deeds
 
@@ -37,6 +38,7 @@ abbrev pub committed_at : Xid → Past → Option ℕ
 committed_at xid [] = None
 committed_at xid (e ∷ past) = committed_after xid e (committed_at xid past)
 
+-- whether there is a commit up to an SCN
 abbrev pub is_up_to : ℕ → Option ℕ → Bool
 is_up_to snapshot None = false
 is_up_to snapshot (Some scn) = nat_le scn snapshot
@@ -47,8 +49,10 @@ seen_at snapshot committed xid = is_up_to snapshot (committed xid)
 
 -- Under a change stand, on its row, only changes of its own transaction and of those that committed below its SCN.
 abbrev pub IsOver : (Xid → Option ℕ) → DeedAt → DeedAt → Type 0
-IsOver committed m o = on (row_of m.deed) o ≡ true → same_xid m.xid o.xid ≡ false → IsSomeAnd (committed o.xid) (λ scn. scn < m.scn)
+IsOver committed m o =
+    on (row_of m.deed) o ≡ true → same_xid m.xid o.xid ≡ false → IsSomeAnd (committed o.xid) (λ scn. scn < m.scn)
 
+-- each deed stands so over those under it
 abbrev pub Ordered : (Xid → Option ℕ) → List DeedAt → Type 0
 Ordered committed [] = Unit {0}
 Ordered committed (m ∷ deeds) = AllByRecursion (IsOver committed m) deeds × Ordered committed deeds
@@ -56,11 +60,13 @@ Ordered committed (m ∷ deeds) = AllByRecursion (IsOver committed m) deeds × O
 -- The table at an SCN is what stands of the transactions that committed up to it.
 abbrev pub TableStands : (Xid → Option ℕ) → List Commit → List DeedAt → Type 0
 TableStands committed commits deeds =
-    (snapshot row : ℕ) → on_row row (changes_up_to snapshot commits) ≡ changes_of (shown row (seen_at snapshot committed) deeds)
+    (snapshot row : ℕ) →
+    on_row row (changes_up_to snapshot commits) ≡ changes_of (shown row (seen_at snapshot committed) deeds)
 
 -- a commit of the history is what stands of its transaction
 abbrev pub IsMade : (Xid → Option ℕ) → List DeedAt → Commit → Type 0
-IsMade committed deeds a = (committed a.xid ≡ Some a.commit_scn) × (a.changes ≡ changes_of (deeds_in (of_xid a.xid deeds)))
+IsMade committed deeds a =
+    (committed a.xid ≡ Some a.commit_scn) × (a.changes ≡ changes_of (deeds_in (of_xid a.xid deeds)))
 
 -- a commit by its record, where these are the records before it
 abbrev pub commit_of : ℕ → Xid → List Record → Commit
@@ -79,7 +85,8 @@ logged durable (r ∷ older) = logged_after durable r older (logged durable olde
 
 -- a deed on a row is of a transaction, or of one that has committed up to an SCN
 abbrev pub IsFree : (Xid → Option ℕ) → ℕ → Xid → ℕ → DeedAt → Type 0
-IsFree committed snapshot xid row o = on row o ≡ true → (o.xid ≡ xid) ⊎ IsSomeAnd (committed o.xid) (λ scn. scn ≤ snapshot)
+IsFree committed snapshot xid row o =
+    on row o ≡ true → (o.xid ≡ xid) ⊎ IsSomeAnd (committed o.xid) (λ scn. scn ≤ snapshot)
 
 -- the newest deed on a row is
 abbrev pub NewestIsFree : (Xid → Option ℕ) → ℕ → Xid → ℕ → List DeedAt → Type 0

@@ -45,6 +45,7 @@ MayFollow r Active = Unit {0}
 MayFollow (Does scn xid seq deed) Fresh = Unit {0}
 MayFollow r Fresh = ⊥
 
+-- each record may follow those before it
 abbrev pub Follows : List Record → Type 0
 Follows [] = Unit {0}
 Follows (r ∷ older) = MayFollow r (stage (xid_of r) older) × Follows older
@@ -79,6 +80,7 @@ pub record RecordAgrees (st : Stage) (live : Bool) (r : Record) : Type 0 where
   pub ends : EndsBy st r
   pub own : CanCommit live st → thread_of r ≡ (xid_of r).seg
 
+-- a record and its transaction agree on a board
 abbrev pub RecordIsIn : List Record → (Xid → Bool) → Record → Type 0
 RecordIsIn records live r = RecordAgrees (stage (xid_of r) records) (live (xid_of r)) r
 
@@ -86,7 +88,8 @@ RecordIsIn records live r = RecordAgrees (stage (xid_of r) records) (live (xid_o
 pub record Txns (records : List Record) (durable : ℕ → ℕ) (stand : Xid → List Deed) (live : Xid → Bool)
     (mark : Xid → ℕ → List Change) (has_mark : Xid → ℕ → Bool) (committed : Xid → Option ℕ)
     (has_commit : ℕ → ℕ → Bool) : Type 0 where
-  pub each : (xid : Xid) → TxnAgrees (stage xid records) (deeds_in (of_xid xid (stands records))) (stand xid) (live xid) (mark xid) (has_mark xid) (committed xid) (durable xid.seg)
+  pub each : (xid : Xid) → TxnAgrees (stage xid records) (deeds_in (of_xid xid (stands records)))
+      (stand xid) (live xid) (mark xid) (has_mark xid) (committed xid) (durable xid.seg)
   pub each_record : AllByRecursion (RecordIsIn records live) records
   pub follows : Follows records
   pub apart : (scn inst : ℕ) → durable inst < scn → has_commit scn inst ≡ false
@@ -126,13 +129,15 @@ pub record RowsStand (records : List Record) (committed : Xid → Option ℕ) (c
 -- row was read
 abbrev pub RowsAreLate : List Record → (ℕ → ℕ) → (ℕ → ℕ) → (Xid → Bool) → (Xid → Option ℕ) → Type 0
 RowsAreLate records clock floor live committed =
-    AllByRecursion (λ m. committed m.xid ≡ None → IsLate (floor (row_of m.deed)) (live m.xid) (stage m.xid records) (clock m.xid.seg)) (stands records)
+    AllByRecursion (λ m. committed m.xid ≡ None →
+    IsLate (floor (row_of m.deed)) (live m.xid) (stage m.xid records) (clock m.xid.seg)) (stands records)
 
 -- starts are at or above what was answered before
 pub record Starts (insts : ℕ) (known : ℕ → ℕ) (home : ℕ → Option ℕ) (started : ℕ → ℕ) (came : ℕ → Bool)
     (up : ℕ → Bool) (acked : ℕ) : Type 0 where
   pub acks : (j : ℕ) → j < insts → up j ≡ true → acked ≤ known j
-  pub starts : (session inst : ℕ) → home session ≡ Some inst → came session ≡ false → up inst ≡ true → started session ≤ known inst
+  pub starts : (session inst : ℕ) → home session ≡ Some inst → came session ≡ false → up inst ≡ true →
+      started session ≤ known inst
   pub unopened : (session : ℕ) → home session ≡ None → started session ≡ 0
   pub homes : (session inst : ℕ) → home session ≡ Some inst → inst < insts
 
@@ -143,8 +148,10 @@ AreRead floor snapshot first count = (row : ℕ) → first ≤ row → row < fir
 -- the rows that an entry tells of were read at the SCN of its statement
 abbrev pub IsRead : (ℕ → Option Range) → (ℕ → ℕ) → Past → Entry → Type 0
 IsRead asked floor past (Rows stmt rows) =
-    IsSomeAnd (asked stmt) (λ range. IsSomeAnd (start_of stmt past) (λ start. AreRead floor start.snapshot range.first range.count))
-IsRead asked floor past (Changed stmt xid row found new) = IsSomeAnd (start_of stmt past) (λ start. start.snapshot ≤ floor row)
+    IsSomeAnd (asked stmt) (λ range. IsSomeAnd (start_of stmt past) (λ start.
+    AreRead floor start.snapshot range.first range.count))
+IsRead asked floor past (Changed stmt xid row found new) =
+    IsSomeAnd (start_of stmt past) (λ start. start.snapshot ≤ floor row)
 IsRead asked floor past _ = Unit {0}
 
 -- what a session has read is what it sees
@@ -153,32 +160,53 @@ pub record ScanIsSeen (floor : ℕ → ℕ) (scan : Scan) (value : ℕ → ℕ �
   pub read : AreRead floor scan.snapshot scan.first scan.count
 
 -- what was answered, and what is being read
-pub record Answers (asked : ℕ → Option Range) (floor : ℕ → ℕ) (scan : ℕ → Scan) (past : Past) (commits : List Commit) : Type 0 where
+pub record Answers (asked : ℕ → Option Range) (floor : ℕ → ℕ) (scan : ℕ → Scan) (past : Past)
+    (commits : List Commit) : Type 0 where
   pub rows : Each (RowsAreSeen asked commits) past
   pub found : Each (FoundIsSeen commits) past
   pub read : Each (IsRead asked floor) past
-  pub scans : (session : ℕ) → ScanIsSeen floor (scan session) (λ snapshot. sees commits past (record { session = session; snapshot = snapshot }))
+  pub scans : (session : ℕ) → ScanIsSeen floor (scan session)
+      (λ snapshot. sees commits past (record { session = session; snapshot = snapshot }))
 
+-- Entries of commits, answers, starts and changes stand where they may.
 pub record IsProper (past : Past) : Type 0 where
   pub commits : Each CommitIsProper past
   pub acknowledgements : Each AckIsProper past
   pub starts : Each StartIsProper past
   pub row_locks : Each RowIsFree past
 
+-- What holds of a board after every run, where statements ask for these rows and there are so many instances.
 pub record Sound (asked : ℕ → Option Range) (insts : ℕ) (board : Board) : Type 0 where
+  -- the SCNs of a thread rise, and no clock is behind what its instance knows and has made
   pub clocks : Clocks board.records board.clock board.known board.durable
-  pub txns : Txns board.records board.durable (λ xid. standing xid board.past) (λ xid. is_open xid board.past) (λ xid scn. marked xid scn board.past)
-      (λ xid scn. stood (is_mark xid scn) board.past) (λ xid. committed_at xid board.past) (λ scn inst. stood (is_commit_by scn inst) board.past)
-  pub sessions : Sessions (λ xid. begun xid board.records) (λ session. last_of session board.past) (λ session. home_of session board.past)
+  -- a transaction is on the board what it is in the journal
+  pub txns : Txns board.records board.durable (λ xid. standing xid board.past) (λ xid. is_open xid board.past)
+      (λ xid scn. marked xid scn board.past) (λ xid scn. stood (is_mark xid scn) board.past)
+      (λ xid. committed_at xid board.past) (λ scn inst. stood (is_commit_by scn inst) board.past)
+  -- a session's last transaction has begun, on its instance, and is no other session's
+  pub sessions : Sessions (λ xid. begun xid board.records) (λ session. last_of session board.past)
+      (λ session. home_of session board.past)
+  -- who is open where an instance is up, and what others have written for it
   pub segments : Segments board.records board.durable (λ xid. is_open xid board.past) (λ inst. is_up inst board.past)
+  -- what stands in the rows is what has committed, and replays
   pub rows : RowsStand board.records (λ xid. committed_at xid board.past) (history board.past)
+  -- under a deed of an open transaction all on its row is its own, or committed up to its session's last start
   pub owns : (session : ℕ) (xid : Xid) → last_of session board.past ≡ Some xid → is_open xid board.past ≡ true →
-      EachSuffix (λ older. FreeUnder (λ other. committed_at other board.past) (started_up_to session board.past) xid (stands older)) board.records
+      EachSuffix (λ older. FreeUnder (λ other. committed_at other board.past) (started_up_to session board.past) xid
+      (stands older)) board.records
+  -- the journal's history is that of the durable records
   pub log_history : history board.past ≡ logged board.durable board.records
-  pub numbers : Numbers board.records (λ inst. told_in inst board.past) (λ inst. since_loss inst board.past) (λ xid. stood (is_deed_of xid) board.past)
-      (λ xid. has_end xid board.past)
-  pub late : RowsAreLate board.records board.clock board.floor (λ xid. is_open xid board.past) (λ xid. committed_at xid board.past)
-  pub starts : Starts insts board.known (λ session. home_of session board.past) (λ session. started_up_to session board.past) (λ session. came_up session board.past)
+  -- the numbers of deeds and the wraps of slots
+  pub numbers : Numbers board.records (λ inst. told_in inst board.past) (λ inst. since_loss inst board.past)
+      (λ xid. stood (is_deed_of xid) board.past) (λ xid. has_end xid board.past)
+  -- no commit will change what was read
+  pub late : RowsAreLate board.records board.clock board.floor (λ xid. is_open xid board.past)
+      (λ xid. committed_at xid board.past)
+  -- statements start at or above what was answered
+  pub starts : Starts insts board.known (λ session. home_of session board.past)
+      (λ session. started_up_to session board.past) (λ session. came_up session board.past)
       (λ inst. is_up inst board.past) (acked_up_to board.past)
+  -- what was answered, and what is being read, is what sessions see
   pub answers : Answers asked board.floor board.scan board.past (history board.past)
+  -- entries stand where they may
   pub proper : IsProper board.past

@@ -34,10 +34,13 @@ pub fn journals_of_runs_are_good()
 /// What a look at a row shows, in an image of an earlier moment too, is what the session sees there, and each deed on
 /// the row that isn't committed will commit above the session's SCN.
 pub fn looks_show_what_sessions_see()
-    ensures value { (asked : ℕ → Option Range) (insts : ℕ) (board : Board) (session inst snapshot row : ℕ) (newer there : List Record) (status : Xid → Bool) →
+    ensures value { (asked : ℕ → Option Range) (insts : ℕ) (board : Board) (session inst snapshot row : ℕ)
+        (newer there : List Record) (status : Xid → Bool) →
         Sound asked insts board → MayLook board session inst snapshot row newer there status →
-        value_there board session row there status ≡ sees (history board.past) board.past (record { session = session; snapshot = snapshot }) row }
-    ensures late { (asked : ℕ → Option Range) (insts : ℕ) (board : Board) (session inst snapshot row : ℕ) (newer there : List Record) (status : Xid → Bool) →
+        value_there board session row there status ≡
+        sees (history board.past) board.past (record { session = session; snapshot = snapshot }) row }
+    ensures late { (asked : ℕ → Option Range) (insts : ℕ) (board : Board) (session inst snapshot row : ℕ)
+        (newer there : List Record) (status : Xid → Bool) →
         Sound asked insts board → MayLook board session inst snapshot row newer there status →
         AllByRecursion (λ m. on row m ≡ true → IsLateHere board snapshot m.xid) (stands board.records) }
 {}
@@ -45,14 +48,16 @@ pub fn looks_show_what_sessions_see()
 /// The SCN of an end in a header of a later moment than the image's tells whether a transaction with a deed on the row
 /// has committed.
 pub fn headers_tell_who_has_committed()
-    ensures { (asked : ℕ → Option Range) (insts : ℕ) (board : Board) (snapshot row : ℕ) (xid : Xid) (newer mid there : List Record) (m : DeedAt) (older more : List DeedAt) →
+    ensures { (asked : ℕ → Option Range) (insts : ℕ) (board : Board) (snapshot row : ℕ) (xid : Xid)
+        (newer mid there : List Record) (m : DeedAt) (older more : List DeedAt) →
         Sound asked insts board → MayTell board snapshot row xid newer mid there →
         stands there ≡ more ++ m ∷ older → on row m ≡ true → same_xid xid m.xid ≡ true →
-        (is_up_to snapshot (ended xid (mid ++ there)) ≡ seen_at snapshot (λ other. committed_at other board.past) xid) × IsLateHere board snapshot xid }
+        (is_up_to snapshot (ended xid (mid ++ there)) ≡ seen_at snapshot (λ other. committed_at other board.past) xid)
+        × IsLateHere board snapshot xid }
 {}
 
-/// A loss takes no end of a segment from under a change or lock of that segment which it keeps: the next transaction of a
-/// slot never stands where the one before has no end.
+/// A loss takes no record for a segment from under a change or lock of that segment which it keeps: so the next
+/// transaction of a slot never stands where the one before has no end.
 pub fn losses_keep_what_segments_stand_on()
     ensures { (asked : ℕ → Option Range) (insts : ℕ) (board : Board) (inst kept : ℕ) →
         Sound asked insts board → MayLose board inst kept → KeepsSegments inst kept board.records }
