@@ -12,7 +12,7 @@ use Rattle.journal.specs.declared.deeds.Deed.{Deed}
 use Rattle.journal.specs.declared.deeds.Deed.TheVariants.{Changes, Locks}
 use Rattle.journal.specs.Past.{same_xid}
 use Rattle.journal.specs.Good.{Range}
-use Rattle.board_rows.specs.Board.{Record, Does, TakesBack, Commits, RollsBack, DeedAt, Stage, Fresh, Active, Over}
+use Rattle.board_rows.specs.Board.{Record, Does, TakesBack, Commits, RollsBack, DeedAt, Fresh, Active, Over}
 use Rattle.board_rows.specs.Events
 use Rattle.board_rows.specs.Events.{Board, Event, Crash, Fault, after, nothing, Leads}
 use Rattle.board_rows.specs.Headers.{MayTell}
