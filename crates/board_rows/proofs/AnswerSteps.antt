@@ -178,3 +178,8 @@ module _ (floor : ℕ → ℕ) (commits : List Commit) where
       below j off high =
           let differ : k ≡ j → ⊥ = (λ e. clash (k == j) (eq-eqb k j e) off) in
           omega (arith, is, high, differ)
+
+-- what is read anew is read at the same snapshot
+pub anew-at : (t : Bool) (scan : Scan) → (anew t scan).snapshot ≡ scan.snapshot
+anew-at true scan = refl
+anew-at false scan = refl

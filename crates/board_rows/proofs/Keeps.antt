@@ -35,11 +35,12 @@ use Rattle.board_rows.proofs.TxnSteps.{txns-changes, txns-back, txns-marks, txns
 use Rattle.board_rows.proofs.TxnSettles.{IsPlaced, all-placed, txns-settles, settled-quiet, settled-commit, apart-quiet, apart-commit}
 use Rattle.board_rows.proofs.Logged.{logged-quiet, logged-commit, stands-over}
 use Rattle.board_rows.proofs.NumberSteps.{numbers-changes, ended-more}
+use Rattle.board_rows.proofs.Losses.{eqb-sym}
 use Rattle.board_rows.proofs.SegmentSteps.{segments-changes, segments-back, segments-marks, segments-rolls, segments-settles, segments-ups}
 use Rattle.board_rows.proofs.Owns.{under-up, under-back, under-committed-more, under-fresh-all}
 use Rattle.board_rows.proofs.LateSteps.{late-reads, late-raises, late-changes, late-back, late-marks, late-rolls, late-settles}
 use Rattle.board_rows.proofs.Look.{changes-free, own-is, live-new, live-low, look-sees, look-late, change-sees, OfRec, stands-from}
-use Rattle.board_rows.proofs.AnswerSteps.{each-read, scan-read, answers-same, settled-same, own-other, unread-seen, scan-anew, scan-reads, by_own}
+use Rattle.board_rows.proofs.AnswerSteps.{each-read, scan-read, answers-same, settled-same, own-other, unread-seen, scan-anew, anew-at, scan-reads, by_own}
 use Rattle.board_rows.proofs.SessionSteps.{none-stood, some-stood, row-free, push-proper, push-answers, sessions-opens, sessions-changes, starts-opens, starts-learns, starts-starts, starts-acks, starts-proper, starts-joins, starts-ups}
 
 module _ (asked : ℕ → Option Range) (insts : ℕ) (b : Board) (sound : Sound asked insts b) where
@@ -66,6 +67,7 @@ module _ (asked : ℕ → Option Range) (insts : ℕ) (b : Board) (sound : Sound
     numbers = sound.numbers;
     late = sound.late;
     starts = starts-opens sound.starts z i may.new may.within;
+    reads_at = sound.reads_at;
     answers = push-answers b.scan (Opened z i) sound.answers tt tt tt sound.answers.scans;
     proper = push-proper (Opened z i) sound.proper tt tt tt tt;
   }
@@ -82,6 +84,7 @@ module _ (asked : ℕ → Option Range) (insts : ℕ) (b : Board) (sound : Sound
     numbers = sound.numbers;
     late = sound.late;
     starts = starts-starts sound.starts z i e may.home may.stays;
+    reads_at = put-all (λ y scan. scan.snapshot ≡ cond (y == z) (max (max (b.known i) e) (started_up_to y b.past)) (started_up_to y b.past)) b.scan z (unread (max (b.known i) e) first) (rw (eq-eqb z z refl) (let low = start.1 in omega (arith, low))) (λ y off. (let f = eqb-sym z y off in rw f (sound.reads_at y)));
     answers = push-answers (put b.scan z (unread (max (b.known i) e) first)) (Started n z (max (b.known i) e)) sound.answers tt tt tt
         (put-all (λ y scan. ScanIsSeen b.floor scan (λ s. sees (history b.past) b.past (record { session = y; snapshot = s }))) b.scan z (unread (max (b.known i) e) first)
         (unread-seen b.floor (history b.past) (max (b.known i) e) first (λ s. sees (history b.past) b.past (record { session = z; snapshot = s }))) (λ y _. sound.answers.scans y));
@@ -103,6 +106,7 @@ module _ (asked : ℕ → Option Range) (insts : ℕ) (b : Board) (sound : Sound
     numbers = sound.numbers;
     late = sound.late;
     starts = starts-learns sound.starts i e;
+    reads_at = sound.reads_at;
     answers = sound.answers;
     proper = sound.proper;
   }
@@ -119,6 +123,7 @@ module _ (asked : ℕ → Option Range) (insts : ℕ) (b : Board) (sound : Sound
     numbers = sound.numbers;
     late = late-raises b.records b.clock b.floor (λ x. is_open x b.past) (λ x. committed_at x b.past) (put b.clock i (max (b.clock i) c)) rise sound.late;
     starts = sound.starts;
+    reads_at = sound.reads_at;
     answers = sound.answers;
     proper = sound.proper;
   }
@@ -138,6 +143,7 @@ module _ (asked : ℕ → Option Range) (insts : ℕ) (b : Board) (sound : Sound
     numbers = sound.numbers;
     late = late-reads b.records b.clock b.floor (λ x. is_open x b.past) (λ x. committed_at x b.past) k (b.scan z).snapshot (look-late asked insts b sound z i (b.scan z).snapshot k newer there status may.look) sound.late;
     starts = sound.starts;
+    reads_at = put-all (λ y scan. scan.snapshot ≡ started_up_to y b.past) b.scan z (read_on (b.scan z) (value_there b z k there status)) (sound.reads_at z) (λ y _. sound.reads_at y);
     answers = record {
       rows = sound.answers.rows;
       found = sound.answers.found;
@@ -171,6 +177,7 @@ module _ (asked : ℕ → Option Range) (insts : ℕ) (b : Board) (sound : Sound
     numbers = sound.numbers;
     late = sound.late;
     starts = sound.starts;
+    reads_at = sound.reads_at;
     answers = push-answers b.scan (Rows n (b.scan z).rows) sound.answers (rw (may.range, may.way) (sound.answers.scans z).seen) tt (rw (may.range, may.way) (sound.answers.scans z).read) sound.answers.scans;
     proper = push-proper (Rows n (b.scan z).rows) sound.proper tt tt tt tt;
   }
@@ -187,6 +194,7 @@ module _ (asked : ℕ → Option Range) (insts : ℕ) (b : Board) (sound : Sound
     numbers = sound.numbers;
     late = sound.late;
     starts = starts-acks sound.starts c may.heard;
+    reads_at = sound.reads_at;
     answers = push-answers b.scan (Acked n x c) sound.answers tt tt tt sound.answers.scans;
     proper = push-proper (Acked n x c) sound.proper tt (may.mark, some-stood x c b.past committed) tt tt;
   }
@@ -200,12 +208,12 @@ module _ (asked : ℕ → Option Range) (insts : ℕ) (b : Board) (sound : Sound
   drawn-at newer r there place = (all_append (λ r. scn_of r ≤ b.clock (thread_of r)) newer (r ∷ there) (subst (AllByRecursion (λ r. scn_of r ≤ b.clock (thread_of r))) place sound.clocks.drawn)).1.0
 
   pub keeps-notes : (e : Entry) → IsNote e → Sound asked insts (after b (Events.notes e))
-  keeps-notes (Plain n) h = record { clocks = sound.clocks; txns = sound.txns; sessions = sound.sessions; segments = sound.segments; rows = sound.rows; owns = sound.owns; log_history = sound.log_history; numbers = sound.numbers; late = sound.late; starts = sound.starts; answers = push-answers b.scan (Plain n) sound.answers tt tt tt sound.answers.scans; proper = push-proper (Plain n) sound.proper tt tt tt tt }
-  keeps-notes (Refused n cause) h = record { clocks = sound.clocks; txns = sound.txns; sessions = sound.sessions; segments = sound.segments; rows = sound.rows; owns = sound.owns; log_history = sound.log_history; numbers = sound.numbers; late = sound.late; starts = sound.starts; answers = push-answers b.scan (Refused n cause) sound.answers tt tt tt sound.answers.scans; proper = push-proper (Refused n cause) sound.proper tt tt tt tt }
-  keeps-notes (Recovered is) h = record { clocks = sound.clocks; txns = sound.txns; sessions = sound.sessions; segments = sound.segments; rows = sound.rows; owns = sound.owns; log_history = sound.log_history; numbers = sound.numbers; late = sound.late; starts = sound.starts; answers = push-answers b.scan (Recovered is) sound.answers tt tt tt sound.answers.scans; proper = push-proper (Recovered is) sound.proper tt tt tt tt }
-  keeps-notes (Moved line) h = record { clocks = sound.clocks; txns = sound.txns; sessions = sound.sessions; segments = sound.segments; rows = sound.rows; owns = sound.owns; log_history = sound.log_history; numbers = sound.numbers; late = sound.late; starts = sound.starts; answers = push-answers b.scan (Moved line) sound.answers tt tt tt sound.answers.scans; proper = push-proper (Moved line) sound.proper tt tt tt tt }
-  keeps-notes (Checkpointed line) h = record { clocks = sound.clocks; txns = sound.txns; sessions = sound.sessions; segments = sound.segments; rows = sound.rows; owns = sound.owns; log_history = sound.log_history; numbers = sound.numbers; late = sound.late; starts = sound.starts; answers = push-answers b.scan (Checkpointed line) sound.answers tt tt tt sound.answers.scans; proper = push-proper (Checkpointed line) sound.proper tt tt tt tt }
-  keeps-notes (NotDone line) h = record { clocks = sound.clocks; txns = sound.txns; sessions = sound.sessions; segments = sound.segments; rows = sound.rows; owns = sound.owns; log_history = sound.log_history; numbers = sound.numbers; late = sound.late; starts = sound.starts; answers = push-answers b.scan (NotDone line) sound.answers tt tt tt sound.answers.scans; proper = push-proper (NotDone line) sound.proper tt tt tt tt }
+  keeps-notes (Plain n) h = record { clocks = sound.clocks; txns = sound.txns; sessions = sound.sessions; segments = sound.segments; rows = sound.rows; owns = sound.owns; log_history = sound.log_history; numbers = sound.numbers; late = sound.late; starts = sound.starts; reads_at = sound.reads_at; answers = push-answers b.scan (Plain n) sound.answers tt tt tt sound.answers.scans; proper = push-proper (Plain n) sound.proper tt tt tt tt }
+  keeps-notes (Refused n cause) h = record { clocks = sound.clocks; txns = sound.txns; sessions = sound.sessions; segments = sound.segments; rows = sound.rows; owns = sound.owns; log_history = sound.log_history; numbers = sound.numbers; late = sound.late; starts = sound.starts; reads_at = sound.reads_at; answers = push-answers b.scan (Refused n cause) sound.answers tt tt tt sound.answers.scans; proper = push-proper (Refused n cause) sound.proper tt tt tt tt }
+  keeps-notes (Recovered is) h = record { clocks = sound.clocks; txns = sound.txns; sessions = sound.sessions; segments = sound.segments; rows = sound.rows; owns = sound.owns; log_history = sound.log_history; numbers = sound.numbers; late = sound.late; starts = sound.starts; reads_at = sound.reads_at; answers = push-answers b.scan (Recovered is) sound.answers tt tt tt sound.answers.scans; proper = push-proper (Recovered is) sound.proper tt tt tt tt }
+  keeps-notes (Moved line) h = record { clocks = sound.clocks; txns = sound.txns; sessions = sound.sessions; segments = sound.segments; rows = sound.rows; owns = sound.owns; log_history = sound.log_history; numbers = sound.numbers; late = sound.late; starts = sound.starts; reads_at = sound.reads_at; answers = push-answers b.scan (Moved line) sound.answers tt tt tt sound.answers.scans; proper = push-proper (Moved line) sound.proper tt tt tt tt }
+  keeps-notes (Checkpointed line) h = record { clocks = sound.clocks; txns = sound.txns; sessions = sound.sessions; segments = sound.segments; rows = sound.rows; owns = sound.owns; log_history = sound.log_history; numbers = sound.numbers; late = sound.late; starts = sound.starts; reads_at = sound.reads_at; answers = push-answers b.scan (Checkpointed line) sound.answers tt tt tt sound.answers.scans; proper = push-proper (Checkpointed line) sound.proper tt tt tt tt }
+  keeps-notes (NotDone line) h = record { clocks = sound.clocks; txns = sound.txns; sessions = sound.sessions; segments = sound.segments; rows = sound.rows; owns = sound.owns; log_history = sound.log_history; numbers = sound.numbers; late = sound.late; starts = sound.starts; reads_at = sound.reads_at; answers = push-answers b.scan (NotDone line) sound.answers tt tt tt sound.answers.scans; proper = push-proper (NotDone line) sound.proper tt tt tt tt }
   keeps-notes _ h = absurd h
 
   -- what sessions read, where a record of x is made
@@ -232,6 +240,7 @@ module _ (asked : ℕ → Option Range) (insts : ℕ) (b : Board) (sound : Sound
     late = late-raises (TakesBack i (b.clock i + 1) x seq row ∷ b.records) b.clock b.floor (λ x. is_open x b.past) (λ x. committed_at x b.past) (put b.clock i (b.clock i + 1)) (rise i)
         (late-back b.records b.clock b.floor (λ x. is_open x b.past) (λ x. committed_at x b.past) i (b.clock i + 1) x seq row sound.late);
     starts = sound.starts;
+    reads_at = λ z. anew-at (is_own (last_of z b.past) x) (b.scan z) ∙ sound.reads_at z;
     answers = push-answers (λ z. anew (is_own (last_of z b.past) x) (b.scan z)) (Undone x left) sound.answers tt tt tt (scans-recorded x (Undone x left ∷ b.past) (λ z. refl) (λ y off. (refl, rw off refl)));
     proper = push-proper (Undone x left) sound.proper (none-stood x b.past new) tt tt tt;
   }
@@ -255,6 +264,7 @@ module _ (asked : ℕ → Option Range) (insts : ℕ) (b : Board) (sound : Sound
     late = late-raises (Commits c x ∷ b.records) b.clock b.floor (λ y. cond (same_xid y x) false (is_open y b.past)) (λ x. committed_at x b.past) (put b.clock i c) (rise i)
         (late-marks b.records b.clock b.floor (λ x. is_open x b.past) (λ x. committed_at x b.past) c x is ((sound.txns.each x).active is) (omega arith) sound.late);
     starts = sound.starts;
+    reads_at = λ z. anew-at (is_own (last_of z b.past) x) (b.scan z) ∙ sound.reads_at z;
     answers = push-answers (λ z. anew (is_own (last_of z b.past) x) (b.scan z)) (Marked n x c) sound.answers tt tt tt (scans-recorded x (Marked n x c ∷ b.past) (λ z. refl) (λ y off. (rw off refl, refl)));
     proper = push-proper (Marked n x c) sound.proper (none-stood x b.past (active-new sound.txns x ((sound.txns.each x).active is))) tt tt tt;
   }
@@ -284,6 +294,7 @@ module _ (asked : ℕ → Option Range) (insts : ℕ) (b : Board) (sound : Sound
     late = late-raises (RollsBack i (b.clock i + 1) x ∷ b.records) b.clock b.floor (λ y. cond (same_xid y x) false (is_open y b.past)) (λ x. committed_at x b.past) (put b.clock i (b.clock i + 1)) (rise i)
         (late-rolls b.records b.clock b.floor (λ x. is_open x b.past) (λ x. committed_at x b.past) i (b.clock i + 1) x sound.late);
     starts = sound.starts;
+    reads_at = λ z. anew-at (is_own (last_of z b.past) x) (b.scan z) ∙ sound.reads_at z;
     answers = push-answers (λ z. anew (is_own (last_of z b.past) x) (b.scan z)) (Rolled x) sound.answers tt tt tt (scans-recorded x (Rolled x ∷ b.past) (λ z. refl) (λ y off. (rw off refl, refl)));
     proper = push-proper (Rolled x) sound.proper (none-stood x b.past (active-new sound.txns x may.may.0)) tt tt tt;
   }
@@ -301,6 +312,7 @@ module _ (asked : ℕ → Option Range) (insts : ℕ) (b : Board) (sound : Sound
     numbers = sound.numbers;
     late = sound.late;
     starts = sound.starts;
+    reads_at = sound.reads_at;
     answers = sound.answers;
     proper = sound.proper;
   }
@@ -317,6 +329,7 @@ module _ (asked : ℕ → Option Range) (insts : ℕ) (b : Board) (sound : Sound
     numbers = sound.numbers;
     late = late-settles b.records b.clock b.floor (λ y. is_open y b.past) (λ y. committed_at y b.past) now (λ y. less y (same_xid y x)) sound.late;
     starts = sound.starts;
+    reads_at = sound.reads_at;
     answers = push-answers b.scan (Committed x c x.seg) answers tt tt tt answers.scans;
     proper = push-proper (Committed x c x.seg) sound.proper (refl, marks.stood, none-stood x b.past more.new, sound.txns.apart c x.seg may.new) tt tt tt;
   }
@@ -515,6 +528,7 @@ module _ (asked : ℕ → Option Range) (insts : ℕ) (b : Board) (sound : Sound
     numbers = numbers-changes sound.numbers (b.clock x.seg + 1) x seq (Changes change) may.next (mine-wrap n z s x seq (Changes change) may);
     late = change-late n z s x seq (Changes change) may;
     starts = sound.starts;
+    reads_at = put-all (λ y scan. scan.snapshot ≡ started_up_to y b.past) b.scan z (unread (b.scan z).snapshot (b.scan z).first) (sound.reads_at z) (λ y _. sound.reads_at y);
     answers = push-answers (put b.scan z (unread (b.scan z).snapshot (b.scan z).first)) e (change-answers n z s x seq (Changes change) may) tt
         (rw may.way (may.found ∙ change-sees asked insts b sound n z s x seq (Changes change) may))
         (rw may.way (rw (put-here b.floor change.row (max (b.floor change.row) s)) (omega arith)))
@@ -535,6 +549,7 @@ module _ (asked : ℕ → Option Range) (insts : ℕ) (b : Board) (sound : Sound
     numbers = numbers-changes sound.numbers (b.clock x.seg + 1) x seq (Locks row) may.next (mine-wrap n z s x seq (Locks row) may);
     late = change-late n z s x seq (Locks row) may;
     starts = sound.starts;
+    reads_at = put-all (λ y scan. scan.snapshot ≡ started_up_to y b.past) b.scan z (unread (b.scan z).snapshot (b.scan z).first) (sound.reads_at z) (λ y _. sound.reads_at y);
     answers = push-answers (put b.scan z (unread (b.scan z).snapshot (b.scan z).first)) e (change-answers n z s x seq (Locks row) may) tt tt tt
         (change-scans n z s x seq (Locks row) may (e ∷ b.past) (λ y. refl) (λ y off. (rw off refl, rw off refl)));
     proper = push-proper e sound.proper (none-stood x b.past (change-new n z s x seq (Locks row) may)) tt tt (change-free n z s x seq (Locks row) may);
@@ -561,6 +576,7 @@ module _ (asked : ℕ → Option Range) (insts : ℕ) (b : Board) (sound : Sound
     late = all_map (λ m. committed_at m.xid b.past ≡ None → IsLate (b.floor (row_of m.deed)) (is_open m.xid b.past) (stage m.xid b.records) (b.clock m.xid.seg)) (λ m. committed_at m.xid b.past ≡ None → IsLate (b.floor (row_of m.deed)) (is_open m.xid b.past) (stage m.xid b.records) (put b.clock i c m.xid.seg)) (stands b.records)
         (λ m h new. late (b.floor (row_of m.deed)) m.xid (h new) (i == m.xid.seg) refl) sound.late;
     starts = starts-joins sound.starts i known may.down;
+    reads_at = sound.reads_at;
     answers = sound.answers;
     proper = sound.proper;
   }
@@ -598,6 +614,7 @@ module _ (asked : ℕ → Option Range) (insts : ℕ) (b : Board) (sound : Sound
     numbers = sound.numbers;
     late = sound.late;
     starts = starts-ups sound.starts i may.heard;
+    reads_at = sound.reads_at;
     answers = push-answers b.scan (Up line i) sound.answers tt tt tt sound.answers.scans;
     proper = push-proper (Up line i) sound.proper tt tt tt tt;
   }

@@ -17,7 +17,7 @@ use Rattle.board_rows.specs.Events
 use Rattle.board_rows.specs.Events.{Board, Loss, Crash, Fault, entry_of_loss, IsLate, MayLose, after, anew, is_kept, kept_of}
 use Rattle.board_rows.specs.Sound.{Sound, Clocks, Sessions, RowsStand, RowsAreLate, ScanIsSeen, EndsBy, CanCommit, RecordIsIn}
 use Rattle.board_rows.proofs.Shown.{all_map, clash}
-use Rattle.board_rows.proofs.AnswerSteps.{own-other as own-same, scan-anew, by_own}
+use Rattle.board_rows.proofs.AnswerSteps.{own-other as own-same, scan-anew, anew-at, by_own}
 use Rattle.board_rows.proofs.SessionSteps.{push-proper, push-answers, starts-loses}
 use Rattle.board_rows.proofs.Losses.{KeepsUnder, keeps-under, eqb-sym, all_filter, Kept, lost-is, stage-kept, of_xid-kept, own-other, begun-kept, rising-kept}
 use Rattle.board_rows.proofs.LossTxns.{committed-is, commit-kept, durable-kept, live-kept, over-before, txns-loses}
@@ -214,6 +214,7 @@ module _ (asked : ℕ → Option Range) (insts : ℕ) (b : Board) (sound : Sound
     numbers = numbers-loses i kept sound.numbers sound.clocks.rising;
     late = late-loses;
     starts = starts-loses sound.starts i;
+    reads_at = λ z. anew-at (is_home z i b.past) (b.scan z) ∙ sound.reads_at z;
     answers = push-answers (λ z. anew (is_home z i b.past) (b.scan z)) (entry_of_loss i (Crash line)) sound.answers tt tt tt (scans-loses (entry_of_loss i (Crash line) ∷ b.past) (λ z. refl) (λ y off. (rw off refl, rw off refl)));
     proper = push-proper (entry_of_loss i (Crash line)) sound.proper tt tt tt tt;
   }
@@ -228,6 +229,7 @@ module _ (asked : ℕ → Option Range) (insts : ℕ) (b : Board) (sound : Sound
     numbers = numbers-loses i kept sound.numbers sound.clocks.rising;
     late = late-loses;
     starts = starts-loses sound.starts i;
+    reads_at = λ z. anew-at (is_home z i b.past) (b.scan z) ∙ sound.reads_at z;
     answers = push-answers (λ z. anew (is_home z i b.past) (b.scan z)) (entry_of_loss i (Fault bad)) sound.answers tt tt tt (scans-loses (entry_of_loss i (Fault bad) ∷ b.past) (λ z. refl) (λ y off. (rw off refl, rw off refl)));
     proper = push-proper (entry_of_loss i (Fault bad)) sound.proper tt tt tt tt;
   }

@@ -31,6 +31,7 @@ module _ (asked : ℕ → Option Range) (insts : ℕ) where
     numbers = record { numbered = tt; newest = λ i. ([], refl); within = λ i. tt; wraps = λ seg slot w low up. absurd (omega arith); ended = λ x e. absurd (false≢true e) };
     late = tt;
     starts = record { acks = λ j low up. omega arith; starts = λ z i at stays is. omega arith; unopened = λ z e. refl; homes = λ z i e. (cc) };
+    reads_at = λ z. refl;
     answers = record { rows = tt; found = tt; read = tt; scans = λ z. unread-seen (λ k. 0) [] 0 0 (λ s. sees [] [] (record { session = z; snapshot = s })) };
     proper = record { commits = tt; acknowledgements = tt; starts = tt; row_locks = tt };
   }

@@ -206,6 +206,8 @@ pub record Sound (asked : ℕ → Option Range) (insts : ℕ) (board : Board) : 
   pub starts : Starts insts board.known (λ session. home_of session board.past)
       (λ session. started_up_to session board.past) (λ session. came_up session board.past)
       (λ inst. is_up inst board.past) (acked_up_to board.past)
+  -- sessions read at the highest snapshot that they started at
+  pub reads_at : (session : ℕ) → (board.scan session).snapshot ≡ started_up_to session board.past
   -- what was answered, and what is being read, is what sessions see
   pub answers : Answers asked board.floor board.scan board.past (history board.past)
   -- entries stand where they may
