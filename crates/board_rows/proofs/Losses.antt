@@ -134,28 +134,15 @@ module _ (i kept : ℕ) where
   abbrev pub AllKept : Xid → List Record → Type 0
   AllKept x recs = AllByRecursion (λ r. same_xid x (xid_of r) ≡ true → Kept r ≡ true) recs
 
+  -- what vanishes is of another
+  lost-other : (x : Xid) (r : Record) → (same_xid x (xid_of r) ≡ true → Kept r ≡ true) → Kept r ≡ false → (t : Bool) → same_xid x (xid_of r) ≡ t → t ≡ false
+  lost-other x r kept off false e = refl
+  lost-other x r kept off true e = clash (Kept r) (kept e) off
+
   pub stage-kept : (x : Xid) (recs : List Record) → AllKept x recs → stage x (filter Kept recs) ≡ stage x recs
   stage-kept x [] h = refl
   stage-kept x (r ∷ recs) h = here (Kept r) refl (stage-kept x recs h.1)
     where
-      after : (r : Record) → (same_xid x (xid_of r) ≡ true → Kept r ≡ true) → Kept r ≡ false → stage x (r ∷ recs) ≡ stage x recs
-      after (Does c y seq d) f off = go (same_xid x y) f
-        where
-          go : (t : Bool) → (t ≡ true → Kept (Does c y seq d) ≡ true) → cond t Active (stage x recs) ≡ stage x recs
-          go true f = clash (Kept (Does c y seq d)) (f refl) off
-          go false f = refl
-      after (TakesBack j c y seq row) f off = refl
-      after (Commits c y) f off = go (same_xid x y) f
-        where
-          go : (t : Bool) → (t ≡ true → Kept (Commits c y) ≡ true) → cond t (Over (Some c)) (stage x recs) ≡ stage x recs
-          go true f = clash (Kept (Commits c y)) (f refl) off
-          go false f = refl
-      after (RollsBack j c y) f off = go (same_xid x y) f
-        where
-          go : (t : Bool) → (t ≡ true → Kept (RollsBack j c y) ≡ true) → cond t (Over None) (stage x recs) ≡ stage x recs
-          go true f = clash (Kept (RollsBack j c y)) (f refl) off
-          go false f = refl
-
       same : (r : Record) → stage x (filter Kept recs) ≡ stage x recs → stage x (r ∷ filter Kept recs) ≡ stage x (r ∷ recs)
       same (Does c y seq d) ih = ap (λ (st : Stage). cond (same_xid x y) Active st) ih
       same (TakesBack j c y seq row) ih = ih
@@ -164,19 +151,12 @@ module _ (i kept : ℕ) where
 
       here : (t : Bool) → Kept r ≡ t → stage x (filter Kept recs) ≡ stage x recs → stage x (cond t (r ∷ filter Kept recs) (filter Kept recs)) ≡ stage x (r ∷ recs)
       here true e ih = same r ih
-      here false e ih = ih ∙ sym (after r h.0 e)
+      here false e ih = ih ∙ sym (after-stage x r recs (lost-other x r h.0 e (same_xid x (xid_of r)) refl))
 
   pub of_xid-kept : (x : Xid) (recs : List Record) → AllKept x recs → of_xid x (stands (filter Kept recs)) ≡ of_xid x (stands recs)
   of_xid-kept x [] h = refl
   of_xid-kept x (r ∷ recs) h = here (Kept r) refl (of_xid-kept x recs h.1)
     where
-      -- what a record of another does to what stands of x
-      other : (r : Record) (mods : List DeedAt) → same_xid x (xid_of r) ≡ false → of_xid x (stands_after r mods) ≡ of_xid x mods
-      other (Does c y seq d) mods e = rw e refl
-      other (TakesBack j c y seq row) mods e = of_xid-without x y seq row mods e
-      other (Commits c y) mods e = refl
-      other (RollsBack j c y) mods e = refl
-
       same : (r : Record) (xs ys : List DeedAt) → of_xid x xs ≡ of_xid x ys → of_xid x (stands_after r xs) ≡ of_xid x (stands_after r ys)
       same (Does c y seq d) xs ys ih = ap (λ (ms : List DeedAt). cond (same_xid x y) (record { xid = y; seq = seq; scn = c; deed = d } ∷ ms) ms) ih
       same (TakesBack j c y seq row) xs ys ih = go (same_xid x y) refl
@@ -187,20 +167,13 @@ module _ (i kept : ℕ) where
       same (Commits c y) xs ys ih = ih
       same (RollsBack j c y) xs ys ih = ih
 
-      not_of : Kept r ≡ false → (t : Bool) → same_xid x (xid_of r) ≡ t → t ≡ false
-      not_of off false e = refl
-      not_of off true e = clash (Kept r) (h.0 e) off
-
       here : (t : Bool) → Kept r ≡ t → of_xid x (stands (filter Kept recs)) ≡ of_xid x (stands recs) → of_xid x (stands (cond t (r ∷ filter Kept recs) (filter Kept recs))) ≡ of_xid x (stands (r ∷ recs))
       here true e ih = same r (stands (filter Kept recs)) (stands recs) ih
-      here false e ih = ih ∙ sym (other r (stands recs) (not_of e (same_xid x (xid_of r)) refl))
+      here false e ih = ih ∙ sym (after-of_xid x r (stands recs) (lost-other x r h.0 e (same_xid x (xid_of r)) refl))
 
   -- the records of a transaction in its own thread are kept
   abbrev pub OwnKept : Xid → List Record → Type 0
   OwnKept x recs = AllByRecursion (λ r. same_xid x (xid_of r) ≡ true → thread_of r ≡ x.seg → Kept r ≡ true) recs
-
-  pub own-kept : (x : Xid) (recs : List Record) → AllKept x recs → OwnKept x recs
-  own-kept x recs h = all_map (λ r. same_xid x (xid_of r) ≡ true → Kept r ≡ true) (λ r. same_xid x (xid_of r) ≡ true → thread_of r ≡ x.seg → Kept r ≡ true) recs (λ r f e _. f e) h
 
   pub own-other : (x : Xid) (recs : List Record) → (x.seg == i) ≡ false → OwnKept x recs
   own-other x recs off = all_of (λ r. same_xid x (xid_of r) ≡ true → thread_of r ≡ x.seg → Kept r ≡ true) recs (λ r e t. kept-other r (rw t off))
@@ -243,15 +216,9 @@ module _ (i kept : ℕ) where
       not_of g false e = refl
       not_of g true e = absurd (stops r (stage (xid_of r) recs) o f.0 (rw (sym (same_xid-true x (xid_of r) e)) g))
 
-      other : (r : Record) → same_xid x (xid_of r) ≡ false → stage x (r ∷ recs) ≡ stage x recs
-      other (Does c y seq d) e = rw e refl
-      other (TakesBack j c y seq row) e = refl
-      other (Commits c y) e = rw e refl
-      other (RollsBack j c y) e = rw e refl
-
       here : (t : Bool) → stage x (cond t (r ∷ filter Kept recs) (filter Kept recs)) ≡ Over o → (stage x (filter Kept recs) ≡ Over o → stage x recs ≡ Over o) → stage x (r ∷ recs) ≡ Over o
       here true e ih = same r ih e
-      here false e ih = let g = ih e in other r (not_of g (same_xid x (xid_of r)) refl) ∙ g
+      here false e ih = let g = ih e in after-stage x r recs (not_of g (same_xid x (xid_of r)) refl) ∙ g
 
   -- under a record that is kept all of its transaction is kept
   near-xid : (x : Xid) (r : Record) (recs : List Record) → same_xid x (xid_of r) ≡ true → AllByRecursion (λ o. AreNear r o → Kept o ≡ true) recs → AllKept x recs
