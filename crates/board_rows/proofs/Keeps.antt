@@ -367,9 +367,7 @@ module _ (asked : ℕ → Option Range) (insts : ℕ) (b : Board) (sound : Sound
         where
           one : (r : Record) → RecordIsIn b.records (λ y. is_open y b.past) r → OfRec (λ m. same_xid x m.xid ≡ true → m.scn < c) r
           one (Does d y seq deed) h = λ e. let over : stage y b.records ≡ Over (Some c) = rw (sym (same_xid-true x y e)) is in rw over at h.ends
-          one (TakesBack i d y seq row) h = tt
-          one (Commits d y) h = tt
-          one (RollsBack i d y) h = tt
+          one _ h = tt
 
       less : (y : Xid) (t : Bool) → cond t (Some c) (committed_at y b.past) ≡ None → committed_at y b.past ≡ None
       less y true e = absurd (let bad : ◌≡◌ {A = Option ℕ} (Some c) None = e in cc)

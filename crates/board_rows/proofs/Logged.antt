@@ -83,9 +83,7 @@ module _ (durable : ℕ → ℕ) (r : Record) (new : durable (thread_of r) < scn
     where
       one : (o : Record) → IsPlaced (durable (thread_of r)) r o → SameDurable durable now o
       one (Commits c x) h = same-durable (Commits c x) (never c x) h
-      one (Does c x seq d) h = tt
-      one (TakesBack i c x seq row) h = tt
-      one (RollsBack i c x) h = tt
+      one _ h = tt
 
 -- after its commit nothing changes of a transaction
 pub stands-over : (c : ℕ) (x : Xid) (newer there : List Record) → Follows (newer ++ Commits c x ∷ there) → (stage x (newer ++ Commits c x ∷ there) ≡ Over (Some c)) × (of_xid x (stands (newer ++ Commits c x ∷ there)) ≡ of_xid x (stands there))

@@ -53,9 +53,8 @@ after-same k (TakesBack j c x seq row) xs ys e = here (row == k) refl
 
 after-other : (k : ℕ) (r : Record) (xs : List DeedAt) → touches k r ≡ false → mods_on k (stands_after r xs) ≡ mods_on k xs
 after-other k (Does c x seq d) xs e = rw e refl
-after-other k (Commits c x) xs e = refl
-after-other k (RollsBack j c x) xs e = refl
 after-other k (TakesBack j c x seq row) xs e = without-other k x seq row xs e
+after-other k _ xs e = refl
 
 -- order, replay and what is shown go by rows
 Ordered-on : (k : ℕ) (committed : Xid → Option ℕ) (mods : List DeedAt) → Ordered committed mods → Ordered committed (mods_on k mods)

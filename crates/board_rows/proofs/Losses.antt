@@ -61,14 +61,11 @@ unbegun-fresh y all (r ∷ recs) h off = here r h.0 (unbegun-fresh y all recs h.
 pub after-of_xid : (x : Xid) (r : Record) (mods : List DeedAt) → same_xid x (xid_of r) ≡ false → of_xid x (stands_after r mods) ≡ of_xid x mods
 after-of_xid x (Does c y seq d) mods e = rw e refl
 after-of_xid x (TakesBack j c y seq row) mods e = of_xid-without x y seq row mods e
-after-of_xid x (Commits c y) mods e = refl
-after-of_xid x (RollsBack j c y) mods e = refl
+after-of_xid x _ mods e = refl
 
 pub after-stage : (x : Xid) (r : Record) (recs : List Record) → same_xid x (xid_of r) ≡ false → stage x (r ∷ recs) ≡ stage x recs
-after-stage x (Does c y seq d) recs e = rw e refl
 after-stage x (TakesBack j c y seq row) recs e = refl
-after-stage x (Commits c y) recs e = rw e refl
-after-stage x (RollsBack j c y) recs e = rw e refl
+after-stage x _ recs e = rw e refl
 
 -- a step back of x takes it from what stands of x
 pub of_xid-back : (x : Xid) (seq row : ℕ) (mods : List DeedAt) → of_xid x (without x seq row mods) ≡ without x seq row (of_xid x mods)
@@ -164,8 +161,7 @@ module _ (i kept : ℕ) where
           go : (t : Bool) → same_xid x y ≡ t → of_xid x (without y seq row xs) ≡ of_xid x (without y seq row ys)
           go false e = of_xid-without x y seq row xs e ∙ (ih ∙ sym (of_xid-without x y seq row ys e))
           go true e = let is : x ≡ y = same_xid-true x y e in rw (sym is) (of_xid-back x seq row xs ∙ (ap (without x seq row) ih ∙ sym (of_xid-back x seq row ys)))
-      same (Commits c y) xs ys ih = ih
-      same (RollsBack j c y) xs ys ih = ih
+      same _ xs ys ih = ih
 
       here : (t : Bool) → Kept r ≡ t → of_xid x (stands (filter Kept recs)) ≡ of_xid x (stands recs) → of_xid x (stands (cond t (r ∷ filter Kept recs) (filter Kept recs))) ≡ of_xid x (stands (r ∷ recs))
       here true e ih = same r (stands (filter Kept recs)) (stands recs) ih
@@ -190,12 +186,8 @@ module _ (i kept : ℕ) where
           lost : (t : Bool) → same_xid x y ≡ t → begun x recs ≡ cond t true (begun x recs)
           lost false f = refl
           lost true f = clash (Kept (Does c y seq d)) (own f (ap (λ (w : Xid). w.seg) (sym (same_xid-true x y f)))) e
-      here (TakesBack j c y seq row) true e own ih = ih
-      here (TakesBack j c y seq row) false e own ih = ih
-      here (Commits c y) true e own ih = ih
-      here (Commits c y) false e own ih = ih
-      here (RollsBack j c y) true e own ih = ih
-      here (RollsBack j c y) false e own ih = ih
+      here _ true e own ih = ih
+      here _ false e own ih = ih
 
   -- an end that is there after the loss was there before
   pub over-kept : (x : Xid) (o : Option ℕ) (recs : List Record) → Follows recs → stage x (filter Kept recs) ≡ Over o → stage x recs ≡ Over o

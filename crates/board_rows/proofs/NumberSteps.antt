@@ -90,12 +90,8 @@ did-kept i kept j (r ∷ recs) h = here r (Kept i kept r) refl h.0 (did-kept i k
         other : (t : Bool) → (j == x.seg) ≡ t → cond t ((x, d) ∷ recorded_in j recs) (recorded_in j recs) ≡ recorded_in j recs
         other false g = refl
         other true g = clash (Kept i kept (Does c x seq d)) (f (sym (eqb-true j x.seg g))) e
-    here (TakesBack k c x seq row) true e f ih = ih
-    here (TakesBack k c x seq row) false e f ih = ih
-    here (Commits c x) true e f ih = ih
-    here (Commits c x) false e f ih = ih
-    here (RollsBack k c x) true e f ih = ih
-    here (RollsBack k c x) false e f ih = ih
+    here _ true e f ih = ih
+    here _ false e f ih = ih
 
 module _ (i kept : ℕ) where
   numbered-kept : (recs : List Record) → Rising recs → Numbered recs → Numbered (filter (Kept i kept) recs)
@@ -104,9 +100,7 @@ module _ (i kept : ℕ) where
     where
       same : (r : Record) → Kept i kept r ≡ true → AllByRecursion (λ o. thread_of o ≡ thread_of r → scn_of o < scn_of r) recs → IsNumbered r recs → IsNumbered r (filter (Kept i kept) recs)
       same (Does c x seq d) k above n = n ∙ ap (λ (ds : List (Xid × Deed)). suc (length ds)) (sym (did-kept i kept x.seg recs (older-kept i kept (Does c x seq d) recs k above)))
-      same (TakesBack j c x seq row) k above n = tt
-      same (Commits c x) k above n = tt
-      same (RollsBack j c x) k above n = tt
+      same _ k above n = tt
 
       here : (t : Bool) → Kept i kept r ≡ t → Numbered (filter (Kept i kept) recs) → Numbered (cond t (r ∷ filter (Kept i kept) recs) (filter (Kept i kept) recs))
       here true e ih = (same r e rising.0 h.0, ih)
@@ -134,12 +128,8 @@ module _ (i kept : ℕ) where
               let at_j : j ≡ x.seg = eqb-true j x.seg f in
               let same : recorded_in j (filter (Kept i kept) recs) ≡ recorded_in j recs = rw at_j (did-kept i kept x.seg recs (older-kept i kept (Does c x seq d) recs e above)) in
               rw f (subst (λ (ds : List (Xid × Deed)). IsWithin ((x, d) ∷ ds) ys) (sym same) h)
-      here (TakesBack k c x seq row) true e above h ih = ih h
-      here (TakesBack k c x seq row) false e above h ih = ih h
-      here (Commits c x) true e above h ih = ih h
-      here (Commits c x) false e above h ih = ih h
-      here (RollsBack k c x) true e above h ih = ih h
-      here (RollsBack k c x) false e above h ih = ih h
+      here _ true e above h ih = ih h
+      here _ false e above h ih = ih h
 
   wrap-kept : (seg slot : ℕ) (recs : List Record) → wrap_in seg slot (filter (Kept i kept) recs) ≤ wrap_in seg slot recs
   wrap-kept seg slot [] = omega arith
@@ -156,12 +146,8 @@ module _ (i kept : ℕ) where
       here : (r : Record) (t : Bool) → wrap_in seg slot (filter (Kept i kept) recs) ≤ wrap_in seg slot recs → wrap_in seg slot (cond t (r ∷ filter (Kept i kept) recs) (filter (Kept i kept) recs)) ≤ wrap_in seg slot (r ∷ recs)
       here (Does c x seq d) true ih = both (seg == x.seg && slot == x.slot) x.wrap (wrap_in seg slot (filter (Kept i kept) recs)) (wrap_in seg slot recs) ih
       here (Does c x seq d) false ih = up (seg == x.seg && slot == x.slot) x.wrap (wrap_in seg slot (filter (Kept i kept) recs)) (wrap_in seg slot recs) ih
-      here (TakesBack j c x seq row) true ih = ih
-      here (TakesBack j c x seq row) false ih = ih
-      here (Commits c x) true ih = ih
-      here (Commits c x) false ih = ih
-      here (RollsBack j c x) true ih = ih
-      here (RollsBack j c x) false ih = ih
+      here _ true ih = ih
+      here _ false ih = ih
 
   pub numbers-loses : {recs : List Record} {told since : ℕ → List (Xid × Deed)} {has ends : Xid → Bool} → Numbers recs told since has ends → Rising recs → Numbers (filter (Kept i kept) recs) told (λ j. cond (j == i) [] (since j)) has (λ y. cond (y.seg == i) false (ends y))
   numbers-loses {recs} {told} {since} {has} {ends} h rising = record {

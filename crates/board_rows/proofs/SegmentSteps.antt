@@ -24,9 +24,7 @@ under-more old now rise (r ∷ recs) h = (one r h.0, under-more old now rise rec
   where
     one : (r : Record) → IsOnSafe old r recs → IsOnSafe now r recs
     one (Does c x seq d) h = all_map (λ o. (xid_of o).seg ≡ x.seg → IsSafe old o) (λ o. (xid_of o).seg ≡ x.seg → IsSafe now o) recs (λ o f e. safe-more old now rise o (f e)) h
-    one (TakesBack i c x seq row) h = tt
-    one (Commits c x) h = tt
-    one (RollsBack i c x) h = tt
+    one _ h = tt
 
 -- what has entered is kept
 safe-kept : (i kept : ℕ) (durable : ℕ → ℕ) → durable i ≤ kept → (r : Record) → scn_of r ≤ durable (thread_of r) → Kept i kept r ≡ true
@@ -42,9 +40,7 @@ under-kept i kept durable (r ∷ recs) h = here (Kept i kept r) (one r h.0) (und
   where
     one : (r : Record) → IsOnSafe durable r recs → IsOnSafe durable r (filter (Kept i kept) recs)
     one (Does c x seq d) f = all_map (λ o. (Kept i kept o ≡ true) × ((xid_of o).seg ≡ x.seg → IsSafe durable o)) (λ o. (xid_of o).seg ≡ x.seg → IsSafe durable o) (filter (Kept i kept) recs) (λ o e. e.1) (all_filter (λ o. (xid_of o).seg ≡ x.seg → IsSafe durable o) (Kept i kept) recs f)
-    one (TakesBack j c x seq row) f = tt
-    one (Commits c x) f = tt
-    one (RollsBack j c x) f = tt
+    one _ f = tt
 
     here : (t : Bool) → IsOnSafe durable r (filter (Kept i kept) recs) → AreOnSafe durable (filter (Kept i kept) recs) → AreOnSafe durable (cond t (r ∷ filter (Kept i kept) recs) (filter (Kept i kept) recs))
     here true f g = (f, g)
@@ -168,6 +164,4 @@ keeps-segments i kept durable low (r ∷ recs) rising under = (one r rising.0 un
         all_both (λ o. thread_of o ≡ x.seg → Kept i kept o ≡ true) (λ o. (xid_of o).seg ≡ x.seg → IsSafe durable o) (λ o. (xid_of o).seg ≡ x.seg → Kept i kept o ≡ true) recs
         (λ o same f e. elim (f e) [ inl own ↦ same (own ∙ e) | inr le ↦ safe-kept i kept durable low o le ])
         (older-kept i kept (Does c x seq d) recs k older) safe
-    one (TakesBack j c x seq row) older safe = tt
-    one (Commits c x) older safe = tt
-    one (RollsBack j c x) older safe = tt
+    one _ older safe = tt

@@ -84,9 +84,7 @@ begun-all (r ∷ recs) f =
         go : (t : Bool) → cond t true (begun w recs) ≡ true
         go true = refl
         go false = h
-    more w (TakesBack j c y seq row) h = h
-    more w (Commits c y) h = h
-    more w (RollsBack j c y) h = h
+    more w _ h = h
 
 -- a commit is its record
 pub stage-commit : (P : Record → Type 0) (y : Xid) (e : ℕ) (recs : List Record) → AllByRecursion P recs → stage y recs ≡ Over (Some e) → P (Commits e y)
@@ -146,10 +144,8 @@ module _ {recs : List Record} {durable : ℕ → ℕ} {stand : Xid → List Deed
   goes-rec x r goes is has h = record { ends = ends r is h; own = λ _. own goes }
     where
       ends : (r : Record) → x ≡ xid_of r → RecordIsIn recs live r → EndsBy Active r
-      ends (Does c y seq d) is h = tt
-      ends (TakesBack i c y seq row) is h = tt
-      ends (RollsBack i c y) is h = tt
       ends (Commits c y) is h = absurd (goes-open x goes (Some c) (ap (λ z. stage z recs) is ∙ h.ends))
+      ends _ is h = tt
 
       own : MayGoOn recs live x → thread_of r ≡ (xid_of r).seg
       own (inl l) = live-own x r l is h
@@ -243,10 +239,9 @@ module _ {recs : List Record} {durable : ℕ → ℕ} {stand : Xid → List Deed
       first false e = clash false e refl
 
       ends : (r : Record) → x ≡ xid_of r → RecordIsIn recs live r → scn_of r < c → EndsBy (Over (Some c)) r
-      ends (Does d y seq deed) same h lt = lt
-      ends (TakesBack i d y seq row) same h lt = lt
       ends (RollsBack i d y) same h lt = tt
       ends (Commits d y) same h lt = absurd (active-open x act (Some d) (ap (λ z. stage z recs) same ∙ h.ends))
+      ends _ same h lt = lt
 
       rest : (r : Record) → RecordIsIn recs live r → (same_xid (xid_of r) x ≡ true → scn_of r < c) → (t : Bool) → same_xid (xid_of r) x ≡ t → RecordAgrees (cond t (Over (Some c)) (stage (xid_of r) recs)) (cond t false (live (xid_of r))) r
       rest r h low false e = h
@@ -271,10 +266,8 @@ module _ {recs : List Record} {durable : ℕ → ℕ} {stand : Xid → List Deed
       first false e = clash false e refl
 
       ends : (r : Record) → x ≡ xid_of r → RecordIsIn recs live r → EndsBy (Over None) r
-      ends (Does d y seq deed) same h = tt
-      ends (TakesBack j d y seq row) same h = tt
-      ends (RollsBack j d y) same h = tt
       ends (Commits d y) same h = absurd (active-open x act (Some d) (ap (λ z. stage z recs) same ∙ h.ends))
+      ends _ same h = tt
 
       rest : (r : Record) → RecordIsIn recs live r → (t : Bool) → same_xid (xid_of r) x ≡ t → RecordAgrees (cond t (Over None) (stage (xid_of r) recs)) (cond t false (live (xid_of r))) r
       rest r h false e = h
