@@ -7,7 +7,7 @@ use Rattle.base_types.specs.declared.names.Xid.{Xid}
 use Rattle.journal.specs.Past.{same_xid}
 use Rattle.journal.specs.Good.{Range}
 use Rattle.journal.proofs.XidLemmas.{same_xid-true}
-use Rattle.board_rows.specs.Board.{Record, Does, TakesBack, Commits, RollsBack, DeedAt, scn_of, xid_of, touches, stands, of_xid, Stage, Fresh, Active, Over, stage, on_disk}
+use Rattle.board_rows.specs.Board.{Record, Does, TakesBack, Commits, RollsBack, DeedAt, scn_of, xid_of, touches, stands, of_xid, Stage, Fresh, Active, Over, stage, durable_commit}
 use Rattle.board_rows.specs.Rows.{on, shown, deeds_in, committed_at, is_up_to, seen_at}
 use Rattle.board_rows.specs.Events.{Board, IsLateHere}
 use Rattle.board_rows.specs.Sound.{Sound, Follows}
@@ -104,10 +104,10 @@ module _ (asked : ℕ → Option Range) (insts : ℕ) (b : Board) (sound : Sound
   over o e = ap (stage x) may.image ∙ stays-over x o newer head (subst Follows may.image sound.txns.follows) e
 
   -- what the journal has of it
-  seen-is : (st : Stage) → stage x b.records ≡ st → seen_at s (λ y. committed_at y b.past) x ≡ is_up_to s (on_disk (b.durable x.seg) st)
-  seen-is st e = ap (is_up_to s) ((sound.txns.each x).commits ∙ ap (on_disk (b.durable x.seg)) e)
+  seen-is : (st : Stage) → stage x b.records ≡ st → seen_at s (λ y. committed_at y b.past) x ≡ is_up_to s (durable_commit (b.durable x.seg) st)
+  seen-is st e = ap (is_up_to s) ((sound.txns.each x).commits ∙ ap (durable_commit (b.durable x.seg)) e)
 
-  not-seen : (c : ℕ) → s < c → is_up_to s (on_disk (b.durable x.seg) (Over (Some c))) ≡ false
+  not-seen : (c : ℕ) → s < c → is_up_to s (durable_commit (b.durable x.seg) (Over (Some c))) ≡ false
   not-seen c lt = here (leb c (b.durable x.seg))
     where
       here : (t : Bool) → is_up_to s (cond t (Some c) None) ≡ false
@@ -179,4 +179,4 @@ module _ (asked : ℕ → Option Range) (insts : ℕ) (b : Board) (sound : Sound
               let on : leb c (b.durable x.seg) ≡ true = (let le = may.durable c e low in grind (arith, nat_tests, le)) in
               let now = over (Some c) e in
               let told : seen_at s (λ y. committed_at y b.past) x ≡ leb c s = seen-is (Over (Some c)) now ∙ ap (λ (t : Bool). is_up_to s (cond t (Some c) None)) on in
-              (ap (is_up_to s) f ∙ (ap (λ n. leb n s) (sym g) ∙ sym told), λ none. absurd (let some : committed_at x b.past ≡ Some c = (sound.txns.each x).commits ∙ (ap (on_disk (b.durable x.seg)) now ∙ ap (λ (t : Bool). cond t (Some c) None) on) in let bad : ◌≡◌ {A = Option ℕ} None (Some c) = sym none ∙ some in cc))
+              (ap (is_up_to s) f ∙ (ap (λ n. leb n s) (sym g) ∙ sym told), λ none. absurd (let some : committed_at x b.past ≡ Some c = (sound.txns.each x).commits ∙ (ap (durable_commit (b.durable x.seg)) now ∙ ap (λ (t : Bool). cond t (Some c) None) on) in let bad : ◌≡◌ {A = Option ℕ} None (Some c) = sym none ∙ some in cc))

@@ -20,7 +20,7 @@ use Rattle.journal.specs.Sees.{sees, is_of, last_of, own_changes}
 use Rattle.journal.specs.Stood.{stood, is_commit_by, is_mark, started_up_to, came_up, acked_up_to}
 use Rattle.journal.specs.Good.{Range}
 use Rattle.journal.proofs.XidLemmas.{same_xid-refl, same_xid-true}
-use Rattle.board_rows.specs.Board.{EachSuffix, Record, Does, TakesBack, Commits, RollsBack, DeedAt, without, thread_of, scn_of, xid_of, stands, of_xid, Stage, Fresh, Active, Over, stage, begun, on_disk, Rising}
+use Rattle.board_rows.specs.Board.{EachSuffix, Record, Does, TakesBack, Commits, RollsBack, DeedAt, without, thread_of, scn_of, xid_of, stands, of_xid, Stage, Fresh, Active, Over, stage, begun, durable_commit, Rising}
 use Rattle.board_rows.specs.Rows.{FreeUnder, IsFree, on, deeds_in, committed_at, commit_of, logged}
 use Rattle.board_rows.specs.Numbers.{wrap_in, has_end}
 use Rattle.board_rows.specs.Events
@@ -178,7 +178,7 @@ module _ (asked : ℕ → Option Range) (insts : ℕ) (b : Board) (sound : Sound
     late = sound.late;
     starts = sound.starts;
     reads_at = sound.reads_at;
-    answers = push-answers b.scan (Rows n (b.scan z).rows) sound.answers (rw (may.range, may.way) (sound.answers.scans z).seen) tt (rw (may.range, may.way) (sound.answers.scans z).read) sound.answers.scans;
+    answers = push-answers b.scan (Rows n (b.scan z).rows) sound.answers (rw (may.range, may.started) (sound.answers.scans z).seen) tt (rw (may.range, may.started) (sound.answers.scans z).read) sound.answers.scans;
     proper = push-proper (Rows n (b.scan z).rows) sound.proper tt tt tt tt;
   }
 
@@ -201,7 +201,7 @@ module _ (asked : ℕ → Option Range) (insts : ℕ) (b : Board) (sound : Sound
     where
       committed : committed_at x b.past ≡ Some c
       committed =
-          (sound.txns.each x).commits ∙ (ap (on_disk (b.durable x.seg)) may.commit
+          (sound.txns.each x).commits ∙ (ap (durable_commit (b.durable x.seg)) may.commit
           ∙ ap (λ (t : Bool). cond t (Some c) None) (let le = may.durable in let yes : leb c (b.durable x.seg) ≡ true = grind (arith, nat_tests, le) in yes))
 
   drawn-at : (newer : List Record) (r : Record) (there : List Record) → b.records ≡ newer ++ r ∷ there → scn_of r ≤ b.clock (thread_of r)
@@ -230,7 +230,7 @@ module _ (asked : ℕ → Option Range) (insts : ℕ) (b : Board) (sound : Sound
   pub keeps-takes_back : (i : ℕ) (x : Xid) (seq row left : ℕ) → MayTakeBack b i x seq row left → Sound asked insts (after b (Events.takes_back i x seq row left))
   keeps-takes_back i x seq row left may = record {
     clocks = clocks-records sound.clocks i (TakesBack i (b.clock i + 1) x seq row) refl refl;
-    txns = txns-back sound.txns i (b.clock i + 1) x seq row left may.m may.rest may.may.0 may.may.1 may.newest first.1 may.stays;
+    txns = txns-back sound.txns i (b.clock i + 1) x seq row left may.taken may.rest may.may.0 may.may.1 may.newest first.1 may.stays;
     sessions = sound.sessions;
     segments = segments-back sound.segments i (b.clock i + 1) x seq row may.may.0 may.may.1;
     rows = rows-back sound.rows i (b.clock i + 1) x seq row new first.0;
@@ -249,7 +249,7 @@ module _ (asked : ℕ → Option Range) (insts : ℕ) (b : Board) (sound : Sound
       new = active-new sound.txns x may.may.0
 
       first : IsNewest x seq row (stands b.records) × (of_xid x (without x seq row (stands b.records)) ≡ may.rest)
-      first = newest-first x seq row (stands b.records) may.m may.rest may.newest may.number may.place
+      first = newest-first x seq row (stands b.records) may.taken may.rest may.newest may.number may.place
 
   pub keeps-marks : (n : ℕ) (x : Xid) → is_open x b.past ≡ true → Sound asked insts (after b (Events.marks n x))
   keeps-marks n x is = record {
@@ -348,7 +348,7 @@ module _ (asked : ℕ → Option Range) (insts : ℕ) (b : Board) (sound : Sound
 
       more : OneMore x c (λ y. committed_at y b.past) now
       more = record {
-        new = (sound.txns.each x).commits ∙ (ap (on_disk (b.durable x.seg)) is ∙ ap (λ (t : Bool). cond t (Some c) None) (let lt = may.new in let off : leb c (b.durable x.seg) ≡ false = grind (arith, nat_tests, lt) in off));
+        new = (sound.txns.each x).commits ∙ (ap (durable_commit (b.durable x.seg)) is ∙ ap (λ (t : Bool). cond t (Some c) None) (let lt = may.new in let off : leb c (b.durable x.seg) ≡ false = grind (arith, nat_tests, lt) in off));
         is = λ y. ap (λ (t : Bool). cond t (Some c) (committed_at y b.past)) (same_xid-sym y x);
       }
 
@@ -449,7 +449,7 @@ module _ (asked : ℕ → Option Range) (insts : ℕ) (b : Board) (sound : Sound
         (λ y off. subst (λ own. ScanIsSeen floor (b.scan y) (by_own b.floor (history b.past) own)) (sym (same y off)) (scan-read b.floor floor change-rises (b.scan y) (λ s. sees (history b.past) b.past (record { session = y; snapshot = s })) (sound.answers.scans y)))
       where
         same : (y : ℕ) → (z == y) ≡ false → own_changes y now ≡ own_changes y b.past
-        same y off = own-other b.past now y (last y ∙ rw may.way (rw off refl)) (λ w e. other w (differ w e (same_xid w x) refl))
+        same y off = own-other b.past now y (last y ∙ rw may.started (rw off refl)) (λ w e. other w (differ w e (same_xid w x) refl))
           where
             differ : (w : Xid) → last_of y b.past ≡ Some w → (t : Bool) → same_xid w x ≡ t → t ≡ false
             differ w e false f = refl
@@ -474,7 +474,7 @@ module _ (asked : ℕ → Option Range) (insts : ℕ) (b : Board) (sound : Sound
     mine-begun = elim mine [ inl m ↦ inl m | inr f ↦ inr (unbegun f) ]
 
     change-owns : (y : ℕ) (w : Xid) → cond (is_of y n b.past) (Some x) (last_of y b.past) ≡ Some w → cond (same_xid w x) true (is_open w b.past) ≡ true → EachSuffix (λ older. FreeUnder told_at (started_up_to y b.past) w (stands older)) recs
-    change-owns y w f o = here (z == y) refl (same_xid w x) refl (subst (λ (p : Option Start). cond (option_map_or (λ start. start.session == y) p false) (Some x) (last_of y b.past) ≡ Some w) may.way f) o
+    change-owns y w f o = here (z == y) refl (same_xid w x) refl (subst (λ (p : Option Start). cond (option_map_or (λ start. start.session == y) p false) (Some x) (last_of y b.past) ≡ Some w) may.started f) o
       where
         all : AllByRecursion (IsFree told_at (started_up_to z b.past) x (row_of deed)) (stands b.records)
         all = rw (sym may.last) (changes-free asked insts b sound n z s x seq deed may)
@@ -504,7 +504,7 @@ module _ (asked : ℕ → Option Range) (insts : ℕ) (b : Board) (sound : Sound
     ChangeSessions = Sessions (λ y. cond (same_xid y x) true (begun y b.records)) (λ y. cond (is_of y n b.past) (Some x) (last_of y b.past)) (λ y. home_of y b.past)
 
     change-sessions : ChangeSessions
-    change-sessions = subst (λ (o : Option Start). Sessions (λ y. cond (same_xid y x) true (begun y b.records)) (λ y. cond (option_map_or (λ start. start.session == y) o false) (Some x) (last_of y b.past)) (λ y. home_of y b.past)) (sym may.way) (sessions-changes sound.sessions z x mine-begun may.home)
+    change-sessions = subst (λ (o : Option Start). Sessions (λ y. cond (same_xid y x) true (begun y b.records)) (λ y. cond (option_map_or (λ start. start.session == y) o false) (Some x) (last_of y b.past)) (λ y. home_of y b.past)) (sym may.started) (sessions-changes sound.sessions z x mine-begun may.home)
 
     change-answers : Answers asked floor b.scan b.past (history b.past)
     change-answers = record {
@@ -528,8 +528,8 @@ module _ (asked : ℕ → Option Range) (insts : ℕ) (b : Board) (sound : Sound
     starts = sound.starts;
     reads_at = put-all (λ y scan. scan.snapshot ≡ started_up_to y b.past) b.scan z (unread (b.scan z).snapshot (b.scan z).first) (sound.reads_at z) (λ y _. sound.reads_at y);
     answers = push-answers (put b.scan z (unread (b.scan z).snapshot (b.scan z).first)) e (change-answers n z s x seq (Changes change) may) tt
-        (rw may.way (may.found ∙ change-sees asked insts b sound n z s x seq (Changes change) may))
-        (rw may.way (rw (put-here b.floor change.row (max (b.floor change.row) s)) (omega arith)))
+        (rw may.started (may.found ∙ change-sees asked insts b sound n z s x seq (Changes change) may))
+        (rw may.started (rw (put-here b.floor change.row (max (b.floor change.row) s)) (omega arith)))
         (change-scans n z s x seq (Changes change) may (e ∷ b.past) (λ y. refl) (λ y off. (rw off refl, rw off refl)));
     proper = push-proper e sound.proper (none-stood x b.past (change-new n z s x seq (Changes change) may)) tt tt (change-free n z s x seq (Changes change) may);
   }

@@ -15,7 +15,7 @@ use Rattle.journal.specs.Sees.{sees, own, last_of}
 use Rattle.journal.specs.Stood.{started_up_to}
 use Rattle.journal.specs.Good.{Range}
 use Rattle.journal.proofs.XidLemmas.{same_xid-refl, same_xid-true}
-use Rattle.board_rows.specs.Board.{Record, Does, TakesBack, Commits, RollsBack, DeedAt, thread_of, scn_of, xid_of, touches, stands, Stage, Fresh, Active, Over, stage, on_disk}
+use Rattle.board_rows.specs.Board.{Record, Does, TakesBack, Commits, RollsBack, DeedAt, thread_of, scn_of, xid_of, touches, stands, Stage, Fresh, Active, Over, stage, durable_commit}
 use Rattle.board_rows.specs.Numbers.{wrap_in}
 use Rattle.board_rows.specs.Rows.{FreeUnder, IsFree, on, shown, on_row, deeds_in, committed_at, is_up_to, seen_at, Ordered}
 use Rattle.board_rows.specs.Events.{Board, IsLate, IsLateHere, is_own, MayLook, MayChange, value_there}
@@ -39,7 +39,7 @@ own-is z x past h = here (last_of z past) refl h
     here (Some y) e h = test y (is_open y past) e refl h
 
 -- a record above s of one that commits hides nothing that is seen
-unseen : (s c d : ℕ) (st : Stage) → s < c → IsBelow c st → is_up_to s (on_disk d st) ≡ false
+unseen : (s c d : ℕ) (st : Stage) → s < c → IsBelow c st → is_up_to s (durable_commit d st) ≡ false
 unseen s c d Fresh lt h = refl
 unseen s c d Active lt h = refl
 unseen s c d (Over None) lt h = refl
@@ -76,7 +76,7 @@ stands-from P (Commits c x ∷ recs) n = stands-from P recs n.1
 stands-from P (RollsBack i c x ∷ recs) n = stands-from P recs n.1
 
 -- a deed is below its commit
-below-commit : (c d e : ℕ) (st : Stage) → IsBelow c st → on_disk d st ≡ Some e → c < e
+below-commit : (c d e : ℕ) (st : Stage) → IsBelow c st → durable_commit d st ≡ Some e → c < e
 below-commit c d e Fresh h f = absurd (let bad : ◌≡◌ {A = Option ℕ} None (Some e) = f in cc)
 below-commit c d e Active h f = absurd (let bad : ◌≡◌ {A = Option ℕ} None (Some e) = f in cc)
 below-commit c d e (Over None) h f = absurd (let bad : ◌≡◌ {A = Option ℕ} None (Some e) = f in cc)
@@ -94,7 +94,7 @@ module _ (asked : ℕ → Option Range) (insts : ℕ) (b : Board) (sound : Sound
   order = suffix_here (λ older. Ordered com_at (stands older)) b.records sound.rows.order
 
   pub live-new : (x : Xid) → is_open x b.past ≡ true → com_at x ≡ None
-  live-new x e = (sound.txns.each x).commits ∙ ap (on_disk (b.durable x.seg)) ((sound.txns.each x).active e)
+  live-new x e = (sound.txns.each x).commits ∙ ap (durable_commit (b.durable x.seg)) ((sound.txns.each x).active e)
 
   -- the records of an open transaction are up to its instance's clock
   pub live-low : AllByRecursion (λ r. is_open (xid_of r) b.past ≡ true → scn_of r ≤ b.clock (xid_of r).seg) b.records

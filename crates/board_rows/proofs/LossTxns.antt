@@ -9,7 +9,7 @@ use Rattle.journal.specs.Past.{same_xid}
 use Rattle.journal.specs.declared.deeds.Change.{Change}
 use Rattle.journal.specs.declared.deeds.Deed.{Deed}
 use Rattle.journal.proofs.XidLemmas.{same_xid-true}
-use Rattle.board_rows.specs.Board.{Record, Does, TakesBack, Commits, RollsBack, DeedAt, xid_of, stands, of_xid, Stage, Fresh, Active, Over, stage, begun, on_disk}
+use Rattle.board_rows.specs.Board.{Record, Does, TakesBack, Commits, RollsBack, DeedAt, xid_of, stands, of_xid, Stage, Fresh, Active, Over, stage, begun, durable_commit}
 use Rattle.board_rows.specs.Rows.{deeds_in}
 use Rattle.board_rows.specs.Sound.{Txns, IsMarked, EndsBy, IsBelow, CanCommit, RecordIsIn}
 use Rattle.board_rows.proofs.Shown.{all_map, clash}
@@ -29,7 +29,7 @@ module _ {recs : List Record} {durable : ℕ → ℕ} {stand : Xid → List Deed
       test d true f is g = let same : d ≡ c = cc in (rw (sym same) is, (let low : d ≤ durable y.seg = grind (arith, nat_tests, f) in omega (arith, low, same)))
       test d false f is g = absurd (let bad : ◌≡◌ {A = Option ℕ} None (Some c) = g in cc)
 
-      here : (st : Stage) → stage y recs ≡ st → on_disk (durable y.seg) st ≡ Some c → (stage y recs ≡ Over (Some c)) × (c ≤ durable y.seg)
+      here : (st : Stage) → stage y recs ≡ st → durable_commit (durable y.seg) st ≡ Some c → (stage y recs ≡ Over (Some c)) × (c ≤ durable y.seg)
       here Fresh is g = absurd (let bad : ◌≡◌ {A = Option ℕ} None (Some c) = g in cc)
       here Active is g = absurd (let bad : ◌≡◌ {A = Option ℕ} None (Some c) = g in cc)
       here (Over None) is g = absurd (let bad : ◌≡◌ {A = Option ℕ} None (Some c) = g in cc)
@@ -102,7 +102,7 @@ module _ {recs : List Record} {durable : ℕ → ℕ} {stand : Xid → List Deed
       rolled y e = ap (λ (ms : List DeedAt). deeds_in ms) (of_xid-kept i kept y recs (ended-whole i kept y None recs newest txns.follows e)) ∙ (txns.each y).rolled (over-kept i kept y None recs txns.follows e)
 
       -- a commit that is gone wasn't on the disk
-      gone : (y : Xid) (st : Stage) → stage y recs ≡ st → ((c : ℕ) → stage y there ≡ Over (Some c) → ⊥) → on_disk (durable y.seg) st ≡ None
+      gone : (y : Xid) (st : Stage) → stage y recs ≡ st → ((c : ℕ) → stage y there ≡ Over (Some c) → ⊥) → durable_commit (durable y.seg) st ≡ None
       gone y Fresh is never = refl
       gone y Active is never = refl
       gone y (Over None) is never = refl
@@ -114,8 +114,8 @@ module _ {recs : List Record} {durable : ℕ → ℕ} {stand : Xid → List Deed
               let low : c ≤ durable y.seg = grind (arith, nat_tests, f) in
               absurd (never c (stage-kept i kept y recs (commit-kept y c is (durable-kept y c low)) ∙ is))
 
-      commits : (y : Xid) (st : Stage) → stage y there ≡ st → committed y ≡ on_disk (durable y.seg) st
-      commits y (Over (Some c)) e = (txns.each y).commits ∙ ap (on_disk (durable y.seg)) (over-before y c e).0
+      commits : (y : Xid) (st : Stage) → stage y there ≡ st → committed y ≡ durable_commit (durable y.seg) st
+      commits y (Over (Some c)) e = (txns.each y).commits ∙ ap (durable_commit (durable y.seg)) (over-before y c e).0
       commits y Fresh e = (txns.each y).commits ∙ gone y (stage y recs) refl (λ c f. (let bad : Fresh ≡ Over (Some c) = sym e ∙ f in cc))
       commits y Active e = (txns.each y).commits ∙ gone y (stage y recs) refl (λ c f. (let bad : Active ≡ Over (Some c) = sym e ∙ f in cc))
       commits y (Over None) e = (txns.each y).commits ∙ gone y (stage y recs) refl (λ c f. (let bad : ◌≡◌ {A = Stage} (Over None) (Over (Some c)) = sym e ∙ f in let worse : ◌≡◌ {A = Option ℕ} None (Some c) = cc in cc))

@@ -9,7 +9,7 @@ use Rattle.journal.specs.Past.{same_xid}
 use Rattle.journal.specs.declared.deeds.Change.{Change}
 use Rattle.journal.specs.declared.deeds.Deed.{Deed}
 use Rattle.journal.proofs.XidLemmas.{same_xid-refl, same_xid-true}
-use Rattle.board_rows.specs.Board.{Record, Commits, thread_of, scn_of, xid_of, Stage, Fresh, Active, Over, stage, on_disk, Rising}
+use Rattle.board_rows.specs.Board.{Record, Commits, thread_of, scn_of, xid_of, Stage, Fresh, Active, Over, stage, durable_commit, Rising}
 use Rattle.board_rows.specs.Events.{put}
 use Rattle.board_rows.specs.Sound.{Txns, EndsBy, RecordIsIn}
 use Rattle.board_rows.proofs.Shown.{all_map, all_append, clash}
@@ -56,13 +56,13 @@ module _ {recs : List Record} {durable : ℕ → ℕ} {stand : Xid → List Deed
       is-over y e f = subst (λ (o : Record). EndsBy (stage (xid_of o) recs) o) (sym f) ends
 
       -- its commit, if it has one, is at another SCN
-      other : (y : Xid) (st : Stage) → stage y recs ≡ st → ((e : ℕ) → Commits e y ≡ r → st ≡ Over (Some e) → ⊥) → now y ≡ on_disk (durable y.seg) st
-      other y st is not = settled.rest y (λ e f. not e f (sym is ∙ is-over y e f)) ∙ ((txns.each y).commits ∙ ap (on_disk (durable y.seg)) is)
+      other : (y : Xid) (st : Stage) → stage y recs ≡ st → ((e : ℕ) → Commits e y ≡ r → st ≡ Over (Some e) → ⊥) → now y ≡ durable_commit (durable y.seg) st
+      other y st is not = settled.rest y (λ e f. not e f (sym is ∙ is-over y e f)) ∙ ((txns.each y).commits ∙ ap (durable_commit (durable y.seg)) is)
 
       same-scn : (y : Xid) (e d : ℕ) → Commits d y ≡ r → Over (Some e) ≡ Over (Some d) → e ≡ scn_of r
       same-scn y e d f g = let same : e ≡ d = cc in same ∙ ap scn_of f
 
-      here-in : (y : Xid) (e : ℕ) → stage y recs ≡ Over (Some e) → (t : Bool) → (i == y.seg) ≡ t → now y ≡ on_disk (cond t (scn_of r) (durable y.seg)) (Over (Some e))
+      here-in : (y : Xid) (e : ℕ) → stage y recs ≡ Over (Some e) → (t : Bool) → (i == y.seg) ≡ t → now y ≡ durable_commit (cond t (scn_of r) (durable y.seg)) (Over (Some e))
       here-in y e is false a = other y (Over (Some e)) is (λ d f _. clash (i == y.seg) (eq-eqb i y.seg (sym (ap thread_of f))) a)
       here-in y e is true a =
           let thread : i ≡ y.seg = eqb-true i y.seg a in
@@ -82,7 +82,7 @@ module _ {recs : List Record} {durable : ℕ → ℕ} {stand : Xid → List Deed
             ]
           ]
 
-      commits : (y : Xid) (st : Stage) → stage y recs ≡ st → now y ≡ on_disk (put durable i (scn_of r) y.seg) st
+      commits : (y : Xid) (st : Stage) → stage y recs ≡ st → now y ≡ durable_commit (put durable i (scn_of r) y.seg) st
       commits y Fresh is = other y Fresh is (λ e f g. (cc))
       commits y Active is = other y Active is (λ e f g. (cc))
       commits y (Over None) is = other y (Over None) is (λ e f g. (cc))

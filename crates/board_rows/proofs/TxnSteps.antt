@@ -10,7 +10,7 @@ use Rattle.journal.specs.declared.deeds.Change.{Change}
 use Rattle.journal.specs.declared.deeds.Deed.{Deed}
 use Rattle.journal.specs.Standing.{changes_of}
 use Rattle.journal.proofs.XidLemmas.{same_xid-refl, same_xid-true}
-use Rattle.board_rows.specs.Board.{Record, Does, TakesBack, Commits, RollsBack, DeedAt, without, of_xid, thread_of, scn_of, xid_of, stands, Stage, Fresh, Active, Over, stage, begun, on_disk}
+use Rattle.board_rows.specs.Board.{Record, Does, TakesBack, Commits, RollsBack, DeedAt, without, of_xid, thread_of, scn_of, xid_of, stands, Stage, Fresh, Active, Over, stage, begun, durable_commit}
 use Rattle.board_rows.specs.Rows.{deeds_in}
 use Rattle.board_rows.specs.Sound.{MayFollow, Follows, Txns, IsMarked, EndsBy, MayGoOn, CanCommit, TxnAgrees, RecordAgrees, RecordIsIn}
 use Rattle.board_rows.proofs.Shown.{all_map, all_both, clash}
@@ -114,10 +114,10 @@ module _ {recs : List Record} {durable : ℕ → ℕ} {stand : Xid → List Deed
   goes-stage x (inr e) = inr e
 
   pub active-new : (x : Xid) → stage x recs ≡ Active → committed x ≡ None
-  active-new x e = (txns.each x).commits ∙ ap (on_disk (durable x.seg)) e
+  active-new x e = (txns.each x).commits ∙ ap (durable_commit (durable x.seg)) e
 
   pub goes-new : (x : Xid) → MayGoOn recs live x → committed x ≡ None
-  goes-new x goes = elim (goes-stage x goes) [ inl e ↦ active-new x e | inr e ↦ (txns.each x).commits ∙ ap (on_disk (durable x.seg)) e ]
+  goes-new x goes = elim (goes-stage x goes) [ inl e ↦ active-new x e | inr e ↦ (txns.each x).commits ∙ ap (durable_commit (durable x.seg)) e ]
 
   active-open : (x : Xid) → stage x recs ≡ Active → (o : Option ℕ) → stage x recs ≢ Over o
   active-open x e o f = let bad : Active ≡ Over o = sym e ∙ f in cc

@@ -96,10 +96,10 @@ abbrev pub begun : Xid → List Record → Bool
 begun xid [] = false
 begun xid (r ∷ older) = begun_after xid r (begun xid older)
 
--- the SCN of a commit that is on the disk, where the records of its thread are there up to an SCN
-abbrev pub on_disk : ℕ → Stage → Option ℕ
-on_disk upto (Over (Some scn)) = if nat_le scn upto then Some scn else None
-on_disk upto _ = None
+-- the SCN of a commit that has entered, where the records of its thread have up to an SCN
+abbrev pub durable_commit : ℕ → Stage → Option ℕ
+durable_commit upto (Over (Some scn)) = if nat_le scn upto then Some scn else None
+durable_commit upto _ = None
 
 -- a fact of the board and of each earlier one
 abbrev pub EachSuffix : (List Record → Type 0) → List Record → Type 0

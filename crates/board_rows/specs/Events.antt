@@ -160,7 +160,7 @@ Finds (Locks row) deeds = Unit {0}
 -- A statement changes or locks a row.
 pub record MayChange (board : Board) (stmt session snapshot : ℕ) (xid : Xid) (number : ℕ) (deed : Deed) : Type 0 where
   -- it started for this session at this snapshot
-  pub way : start_of stmt board.past ≡ Some (record { session = session; snapshot = snapshot })
+  pub started : start_of stmt board.past ≡ Some (record { session = session; snapshot = snapshot })
   -- the session is on the instance of the transaction's segment
   pub home : home_of session board.past ≡ Some xid.seg
   -- which is up
@@ -189,14 +189,14 @@ MayEnd board inst xid = (stage xid board.records ≡ Active) × (is_open xid boa
 pub record MayTakeBack (board : Board) (inst : ℕ) (xid : Xid) (seq row left : ℕ) : Type 0 where
   -- who may end the transaction may take back
   pub may : MayEnd board inst xid
-  pub m : DeedAt
+  pub taken : DeedAt
   pub rest : List DeedAt
   -- it is the newest of the transaction that stands
-  pub newest : of_xid xid (stands board.records) ≡ m ∷ rest
+  pub newest : of_xid xid (stands board.records) ≡ taken ∷ rest
   -- the record names it by its number
-  pub number : seq ≡ m.seq
+  pub number : seq ≡ taken.seq
   -- and by its row
-  pub place : row ≡ row_of m.deed
+  pub place : row ≡ row_of taken.deed
   -- while the transaction is open the entry tells how many are left
   pub stays : is_open xid board.past ≡ true → left ≡ length rest
 
@@ -219,7 +219,7 @@ pub record MaySettle (board : Board) (newer : List Record) (r : Record) (there :
 -- What a session has read is the answer of a statement.
 pub record MayAnswer (asked : ℕ → Option Range) (board : Board) (stmt session : ℕ) : Type 0 where
   -- the statement is the session's, at the snapshot for which it has read
-  pub way : start_of stmt board.past ≡ Some (record { session = session; snapshot = (board.scan session).snapshot })
+  pub started : start_of stmt board.past ≡ Some (record { session = session; snapshot = (board.scan session).snapshot })
   -- it asks for just the rows that were read
   pub range : asked stmt ≡ Some (record { first = (board.scan session).first; count = (board.scan session).count })
 
@@ -232,7 +232,7 @@ pub record MayAck (insts : ℕ) (board : Board) (stmt scn : ℕ) (xid : Xid) : T
   -- and durable
   pub durable : scn ≤ board.durable xid.seg
   -- each instance that is up starts its statements at the commit's SCN or above
-  pub heard : (j : ℕ) → j < insts → is_up j board.past ≡ true → scn ≤ board.known j
+  pub heard : (inst : ℕ) → inst < insts → is_up inst board.past ≡ true → scn ≤ board.known inst
 
 -- an entry of which no clause on rows speaks
 abbrev pub IsNote : Entry → Type 0

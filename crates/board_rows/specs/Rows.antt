@@ -65,8 +65,9 @@ TableStands committed commits deeds =
 
 -- a commit of the history is what stands of its transaction
 abbrev pub IsMade : (Xid → Option ℕ) → List DeedAt → Commit → Type 0
-IsMade committed deeds a =
-    (committed a.xid ≡ Some a.commit_scn) × (a.changes ≡ changes_of (deeds_in (of_xid a.xid deeds)))
+IsMade committed deeds commit =
+    (committed commit.xid ≡ Some commit.commit_scn)
+    × (commit.changes ≡ changes_of (deeds_in (of_xid commit.xid deeds)))
 
 -- a commit by its record, where these are the records before it
 abbrev pub commit_of : ℕ → Xid → List Record → Commit

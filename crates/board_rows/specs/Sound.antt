@@ -14,7 +14,7 @@ use Rattle.journal.specs.History.{history, marked}
 use Rattle.journal.specs.Sees.{sees, last_of}
 use Rattle.journal.specs.Stood.{stood, is_mark, is_commit_by, acked_up_to, started_up_to, came_up}
 use Rattle.journal.specs.Good.{Range, listed, RowsAreSeen, FoundIsSeen, CommitIsProper, AckIsProper, StartIsProper, RowIsFree, changes_in, Replays}
-use Rattle.board_rows.specs.Board.{Record, Does, TakesBack, Commits, RollsBack, thread_of, scn_of, xid_of, stands, of_xid, Stage, Fresh, Active, Over, stage, begun, on_disk, EachSuffix, Rising, IsSafe}
+use Rattle.board_rows.specs.Board.{Record, Does, TakesBack, Commits, RollsBack, thread_of, scn_of, xid_of, stands, of_xid, Stage, Fresh, Active, Over, stage, begun, durable_commit, EachSuffix, Rising, IsSafe}
 use Rattle.board_rows.specs.Rows.{deeds_in, committed_at, Ordered, TableStands, IsMade, FreeUnder, logged}
 use Rattle.board_rows.specs.Numbers.{Numbers, told_in, since_loss, is_deed_of, has_end}
 use Rattle.board_rows.specs.Events.{Board, Scan, IsLate}
@@ -72,7 +72,7 @@ pub record TxnAgrees (st : Stage) (deeds stand : List Deed) (live : Bool) (mark 
   pub active : live ≡ true → st ≡ Active
   pub stands : (live ≡ true) ⊎ (st ≡ Fresh) → stand ≡ deeds
   pub marks : (scn : ℕ) → st ≡ Over (Some scn) → IsMarked (mark scn) (has_mark scn) deeds
-  pub commits : committed ≡ on_disk upto st
+  pub commits : committed ≡ durable_commit upto st
   pub rolled : st ≡ Over None → deeds ≡ []
 
 -- what a record says of its transaction
@@ -135,7 +135,7 @@ RowsAreLate records clock floor live committed =
 -- starts are at or above what was answered before
 pub record Starts (insts : ℕ) (known : ℕ → ℕ) (home : ℕ → Option ℕ) (started : ℕ → ℕ) (came : ℕ → Bool)
     (up : ℕ → Bool) (acked : ℕ) : Type 0 where
-  pub acks : (j : ℕ) → j < insts → up j ≡ true → acked ≤ known j
+  pub acks : (inst : ℕ) → inst < insts → up inst ≡ true → acked ≤ known inst
   pub starts : (session inst : ℕ) → home session ≡ Some inst → came session ≡ false → up inst ≡ true →
       started session ≤ known inst
   pub unopened : (session : ℕ) → home session ≡ None → started session ≡ 0
