@@ -10,7 +10,7 @@ use Rattle.journal.proofs.XidLemmas.{same_xid-true}
 use Rattle.board_rows.specs.Board.{Record, Does, TakesBack, Commits, RollsBack, DeedAt, scn_of, xid_of, touches, stands, of_xid, Stage, Fresh, Active, Over, stage, durable_commit}
 use Rattle.board_rows.specs.Rows.{on, shown, deeds_in, committed_at, is_up_to, seen_at}
 use Rattle.board_rows.specs.Events.{Board, IsLateHere}
-use Rattle.board_rows.specs.Sound.{Sound, Follows}
+use Rattle.board_rows.specs.Sound.{Sound, Follows, MayFollow}
 use Rattle.board_rows.specs.Headers.{ended, MayTell}
 use Rattle.board_rows.proofs.Shown.{all_append, shown-later, shown-of_xid}
 use Rattle.board_rows.proofs.TxnSteps.{stops}
@@ -24,20 +24,31 @@ Agrees (Over o) None = ⊥
 Agrees _ None = Unit {0}
 Agrees _ (Some e) = ⊥
 
-ended-agrees : (x : Xid) (recs : List Record) → Agrees (stage x recs) (ended x recs)
-ended-agrees x [] = tt
-ended-agrees x (Does c y seq d ∷ recs) = here (same_xid x y) (ended-agrees x recs)
+follows-older : (newer head : List Record) → Follows (newer ++ head) → Follows head
+follows-older [] head f = f
+follows-older (r ∷ newer) head f = follows-older newer head f.1
+
+-- what goes on has no end
+going : (r : Record) (st : Stage) (o : Option ℕ) → MayFollow r st → Agrees st o → Agrees Active o
+going r (Over p) o g a = absurd g
+going r Active o g a = a
+going r Fresh None g a = tt
+going r Fresh (Some e) g a = a
+
+ended-agrees : (x : Xid) (recs : List Record) → Follows recs → Agrees (stage x recs) (ended x recs)
+ended-agrees x [] f = tt
+ended-agrees x (Does c y seq d ∷ recs) f = here (same_xid x y) refl (ended-agrees x recs f.1)
   where
-    here : (t : Bool) → Agrees (stage x recs) (ended x recs) → Agrees (cond t Active (stage x recs)) (cond t None (ended x recs))
-    here true ih = tt
-    here false ih = ih
-ended-agrees x (TakesBack i c y seq row ∷ recs) = ended-agrees x recs
-ended-agrees x (Commits c y ∷ recs) = here (same_xid x y) (ended-agrees x recs)
+    here : (t : Bool) → same_xid x y ≡ t → Agrees (stage x recs) (ended x recs) → Agrees (cond t Active (stage x recs)) (ended x recs)
+    here true e ih = going (Does c y seq d) (stage x recs) (ended x recs) (rw (same_xid-true x y e) f.0) ih
+    here false e ih = ih
+ended-agrees x (TakesBack i c y seq row ∷ recs) f = ended-agrees x recs f.1
+ended-agrees x (Commits c y ∷ recs) f = here (same_xid x y) (ended-agrees x recs f.1)
   where
     here : (t : Bool) → Agrees (stage x recs) (ended x recs) → Agrees (cond t (Over (Some c)) (stage x recs)) (cond t (Some c) (ended x recs))
     here true ih = refl
     here false ih = ih
-ended-agrees x (RollsBack i c y ∷ recs) = here (same_xid x y) (ended-agrees x recs)
+ended-agrees x (RollsBack i c y ∷ recs) f = here (same_xid x y) (ended-agrees x recs f.1)
   where
     here : (t : Bool) → Agrees (stage x recs) (ended x recs) → Agrees (cond t (Over None) (stage x recs)) (cond t (Some c) (ended x recs))
     here true ih = tt
@@ -156,7 +167,7 @@ module _ (asked : ℕ → Option Range) (insts : ℕ) (b : Board) (sound : Sound
           sym (shown-of_xid k x (stands head)) ∙ none-shows k (of_xid x (stands head)) (ap (λ (ms : List DeedAt). deeds_in ms) (sym mods) ∙ gone)
 
   pub header-tells : IsTold
-  header-tells = here (stage x head) refl (ended x head) refl (ended-agrees x head)
+  header-tells = here (stage x head) refl (ended x head) refl (ended-agrees x head (follows-older newer head (subst Follows may.image sound.txns.follows)))
     where
       here : (st : Stage) → stage x head ≡ st → (o : Option ℕ) → ended x head ≡ o → Agrees st o → IsTold
       here Fresh e None f g = not-yet (stage x b.records) refl (ap (is_up_to s) f) (came-since (λ c h. (let bad : Fresh ≡ Over (Some c) = sym e ∙ h in cc)) (stage x b.records) refl)

@@ -4,12 +4,11 @@ use Rattle.std.specs.List.{AllByRecursion}
 use Rattle.base_types.specs.declared.names.Xid.{Xid}
 use Rattle.journal.specs.Past.{same_xid}
 use Rattle.journal.specs.Standing.{is_open}
-use Rattle.board_rows.specs.Board.{Record, Does, Commits, RollsBack, scn_of, xid_of, touches, Over, stage}
+use Rattle.board_rows.specs.Board.{Record, Commits, RollsBack, scn_of, xid_of, touches, Over, stage}
 use Rattle.board_rows.specs.Events.{Board}
 
 -- the SCN of a transaction's end, by a commit or a rollback: all that a header has of it
 abbrev pub ended_after : Xid → Record → Option ℕ → Option ℕ
-ended_after xid (Does scn other seq deed) before = if same_xid xid other then None else before
 ended_after xid (Commits scn other) before = if same_xid xid other then Some scn else before
 ended_after xid (RollsBack inst scn other) before = if same_xid xid other then Some scn else before
 ended_after xid _ before = before
