@@ -1,12 +1,14 @@
-ghost use Rattle.std.specs.Prelude.{◌≡◌, ℕ, Option, Bool, true, List, ◌∷◌, ◌++◌};
+ghost use Rattle.std.specs.Prelude.{◌≡◌, ℕ, Option, Bool, true, false, List, ◌∷◌, ◌++◌};
 ghost use Rattle.std.specs.List.{AllByRecursion};
 ghost use Rattle.base_types.specs.declared.names.Xid.{Xid};
-ghost use Rattle.journal.specs.Past.{same_xid};
+ghost use Rattle.journal.specs.Past.{same_xid, is_up};
+ghost use Rattle.journal.specs.Standing.{standing, is_open};
 ghost use Rattle.journal.specs.History.{history};
 ghost use Rattle.journal.specs.Sees.{sees};
 ghost use Rattle.journal.specs.Good.{Range, GoodRows, GoodJournal};
-ghost use Rattle.board_rows.specs.Board.{Record, DeedAt, stands};
-ghost use Rattle.board_rows.specs.Rows.{on, logged, committed_at, is_up_to, seen_at};
+ghost use Rattle.board_rows.specs.Board.{Record, DeedAt, stands, of_xid, Fresh, Active, stage};
+ghost use Rattle.board_rows.specs.Numbers.{has_end};
+ghost use Rattle.board_rows.specs.Rows.{on, deeds_in, logged, committed_at, is_up_to, seen_at};
 ghost use Rattle.board_rows.specs.Events.{Board, Event, May, MayLook, MayLose, KeepsSegments, IsLateHere, value_there, after, nothing, Leads};
 ghost use Rattle.board_rows.specs.Headers.{ended, MayTell};
 ghost use Rattle.board_rows.specs.Sound.{Sound};
@@ -61,4 +63,20 @@ pub fn headers_tell_who_has_committed()
 pub fn losses_keep_what_segments_stand_on()
     ensures { (asked : ℕ → Option Range) (insts : ℕ) (board : Board) (inst kept : ℕ) →
         Sound asked insts board → MayLose board inst kept → KeepsSegments inst kept board.records }
+{}
+
+/// A transaction is on the board what the journal says of it: it is open exactly where it has no end and its instance is
+/// up, what stands of it is the same, and a name that has no record was given to nobody who has ended since the loss.
+pub fn transactions_are_what_the_journal_says()
+    ensures open { (asked : ℕ → Option Range) (insts : ℕ) (board : Board) (xid : Xid) →
+        Sound asked insts board → is_up xid.seg board.past ≡ true →
+        stage xid board.records ≡ Active → is_open xid board.past ≡ true }
+    ensures active { (asked : ℕ → Option Range) (insts : ℕ) (board : Board) (xid : Xid) →
+        Sound asked insts board → is_open xid board.past ≡ true →
+        (is_up xid.seg board.past ≡ true) × (stage xid board.records ≡ Active) }
+    ensures standing { (asked : ℕ → Option Range) (insts : ℕ) (board : Board) (xid : Xid) →
+        Sound asked insts board → is_open xid board.past ≡ true →
+        standing xid board.past ≡ deeds_in (of_xid xid (stands board.records)) }
+    ensures new { (asked : ℕ → Option Range) (insts : ℕ) (board : Board) (xid : Xid) →
+        Sound asked insts board → stage xid board.records ≡ Fresh → has_end xid board.past ≡ false }
 {}
