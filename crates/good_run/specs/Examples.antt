@@ -1,0 +1,165 @@
+-- Scripts and journals that show what the clauses of a good journal take and refuse. Line 1 of each script says how
+-- many instances there are; journals stand here in the order in which they were made.
+use Rattle.std.specs.Prelude.{ℕ, pos, List, [], ◌∷◌, false, reverse, codes, map}
+use Rattle.base_types.specs.declared.names.Xid.{Xid}
+use Rattle.base_types.specs.declared.value.Value.TheVariants.{Absent, Num}
+use Rattle.journal.specs.declared.cause.Cause.TheVariants.{Lost, NotConnected}
+use Rattle.journal.specs.declared.entry.Entry.TheVariants.{Opened, Started, Rows, Changed, Marked, Committed, Acked}
+use Rattle.journal.specs.declared.entry.Entry.TheVariants.{Rolled, Plain, Refused, Crashed, Ended, Recovered, Up, NotDone}
+use Rattle.journal.specs.Past.{Past}
+use Rattle.script_text.specs.declared.item.Item.{Item}
+use Rattle.script_text.specs.declared.item.Item.TheVariants.{Session, CrashAfter, CrashMark, Start, Remaster, Checkpoint, Hold}
+use Rattle.script_text.specs.declared.item.Item.TheVariants.{Stmt as Statement}
+use Rattle.script_text.specs.declared.item.Keep.TheVariants.{First, AllBut}
+use Rattle.script_text.specs.declared.item.Stmt.TheVariants.{Get, Put, Commit}
+use Rattle.script_text.specs.ScriptParts.{ScriptParts}
+use Rattle.script_text.specs.Limits.{default_undo, default_cache, default_seed}
+
+-- a script of so many lines whose sessions are on these instances
+abbrev pub script : ℕ → ℕ → List ℕ → List (List (ℕ × Item)) → ScriptParts
+script instances lines homes waves = record {
+  settings = record { instances = instances; blocks = 8; undo = default_undo; cache = default_cache; seed = default_seed };
+  lines = lines;
+  names = map (λ home. codes "a") homes;
+  homes = homes;
+  waves = waves;
+}
+
+-- the first transaction of instance 0
+abbrev pub first_xid : Xid
+first_xid = record { seg = 0; slot = 0; wrap = 1 }
+
+-- `session a on 0 | a: put 3 42 | a: commit | a: get 3`
+abbrev pub one_change : ScriptParts
+one_change =
+    script 1 5 (0 ∷ []) (((2, Session 0 0) ∷ (3, Statement 0 (Put 3 (Num (pos 42)))) ∷ (4, Statement 0 Commit)
+    ∷ (5, Statement 0 (Get 3)) ∷ []) ∷ [])
+
+-- its lines one after another
+abbrev pub one_by_one : Past
+one_by_one =
+    reverse (Opened 0 0 ∷ Started 3 0 0 ∷ Changed 3 first_xid 3 Absent (Num (pos 42)) ∷ Started 4 0 0
+    ∷ Marked 4 first_xid 2 ∷ Committed first_xid 2 0 ∷ Acked 4 first_xid 2 ∷ Started 5 0 2
+    ∷ Rows 5 ((3, Num (pos 42)) ∷ []) ∷ [])
+
+-- all three start before the first is answered, and so nothing commits
+abbrev pub all_at_once : Past
+all_at_once =
+    reverse (Opened 0 0 ∷ Started 3 0 0 ∷ Started 4 0 0 ∷ Started 5 0 0
+    ∷ Changed 3 first_xid 3 Absent (Num (pos 42)) ∷ Plain 4 ∷ Rows 5 ((3, Num (pos 42)) ∷ []) ∷ [])
+
+-- its first line starts twice, as a put may
+abbrev pub put_again : Past
+put_again = reverse (Opened 0 0 ∷ Started 3 0 0 ∷ Started 3 0 0 ∷ Changed 3 first_xid 3 Absent (Num (pos 42)) ∷ [])
+
+-- its commit starts twice
+abbrev pub commit_again : Past
+commit_again =
+    reverse (Opened 0 0 ∷ Started 3 0 0 ∷ Changed 3 first_xid 3 Absent (Num (pos 42)) ∷ Started 4 0 0 ∷ Started 4 0 0
+    ∷ [])
+
+-- its change is rolled back, and nobody asked
+abbrev pub unasked_rollback : Past
+unasked_rollback =
+    reverse (Opened 0 0 ∷ Started 3 0 0 ∷ Changed 3 first_xid 3 Absent (Num (pos 42)) ∷ Started 4 0 0
+    ∷ Rolled first_xid ∷ Plain 4 ∷ [])
+
+-- `session a on 0 | crash 0 after 0 keep 0 | go | start 0 | go | a: get 0`
+abbrev pub crash_and_start : ScriptParts
+crash_and_start =
+    script 2 7 (0 ∷ []) (((2, Session 0 0) ∷ (3, CrashAfter 0 0 (First 0)) ∷ []) ∷ ((5, Start 0) ∷ [])
+    ∷ ((7, Statement 0 (Get 0)) ∷ []) ∷ [])
+
+-- the session stays the one that was opened before the crash
+abbrev pub opened_once : Past
+opened_once = reverse (Opened 0 0 ∷ Crashed 3 0 ∷ Recovered 1 ∷ Up 5 0 ∷ Refused 7 NotConnected ∷ [])
+
+-- the session is opened again, and goes on
+abbrev pub opened_twice : Past
+opened_twice = reverse (Opened 0 0 ∷ Crashed 3 0 ∷ Recovered 1 ∷ Up 5 0 ∷ Opened 0 0 ∷ Started 7 0 0 ∷ Rows 7 [] ∷ [])
+
+-- `session a on 0 | crash 1 after 0 keep 0 | go | a: get 0`
+abbrev pub crash_before_get : ScriptParts
+crash_before_get =
+    script 2 5 (0 ∷ []) (((2, Session 0 0) ∷ (3, CrashAfter 1 0 (First 0)) ∷ []) ∷ ((5, Statement 0 (Get 0)) ∷ [])
+    ∷ [])
+
+abbrev pub get_after_crash : Past
+get_after_crash = reverse (Opened 0 0 ∷ Crashed 3 1 ∷ Started 5 0 0 ∷ Rows 5 [] ∷ [])
+
+-- the instance ends by a fault, which answers the crash line
+abbrev pub get_after_end : Past
+get_after_end = reverse (Opened 0 0 ∷ Ended 1 false ∷ Started 5 0 0 ∷ Rows 5 [] ∷ [])
+
+-- the later wave doesn't wait
+abbrev pub get_before_crash : Past
+get_before_crash = reverse (Opened 0 0 ∷ Started 5 0 0 ∷ Rows 5 [] ∷ Crashed 3 1 ∷ [])
+
+-- `session m on 0 | go | session r on 0 | hold r until m | r: get 0 | m: put 0 1`
+abbrev pub held : ScriptParts
+held =
+    script 1 7 (0 ∷ 0 ∷ []) (((2, Session 0 0) ∷ []) ∷ ((4, Session 1 0) ∷ (5, Hold 1 0) ∷ (6, Statement 1 (Get 0))
+    ∷ (7, Statement 0 (Put 0 (Num (pos 1)))) ∷ []) ∷ [])
+
+abbrev pub reader_around : Past
+reader_around =
+    reverse (Opened 0 0 ∷ Opened 1 0 ∷ Started 6 1 0 ∷ Started 7 0 0 ∷ Changed 7 first_xid 0 Absent (Num (pos 1))
+    ∷ Rows 6 [] ∷ [])
+
+-- the other session starts before the reader is opened
+abbrev pub writer_first : Past
+writer_first =
+    reverse (Opened 0 0 ∷ Started 7 0 0 ∷ Changed 7 first_xid 0 Absent (Num (pos 1)) ∷ Opened 1 0 ∷ Started 6 1 0
+    ∷ Rows 6 [] ∷ [])
+
+-- the reader is answered before the other session
+abbrev pub reader_first : Past
+reader_first =
+    reverse (Opened 0 0 ∷ Opened 1 0 ∷ Started 6 1 0 ∷ Rows 6 [] ∷ Started 7 0 0
+    ∷ Changed 7 first_xid 0 Absent (Num (pos 1)) ∷ [])
+
+-- `session r on 0 | session m on 0 | crash 0 after 0 keep 0 | go | hold r until m | r: get 0 | m: get 0`
+abbrev pub held_while_down : ScriptParts
+held_while_down =
+    script 2 8 (0 ∷ 0 ∷ []) (((2, Session 0 0) ∷ (3, Session 1 0) ∷ (4, CrashAfter 0 0 (First 0)) ∷ [])
+    ∷ ((6, Hold 0 1) ∷ (7, Statement 0 (Get 0)) ∷ (8, Statement 1 (Get 0)) ∷ []) ∷ [])
+
+-- neither is connected, and the reader is answered first
+abbrev pub both_refused : Past
+both_refused =
+    reverse (Opened 0 0 ∷ Opened 1 0 ∷ Crashed 4 0 ∷ Refused 7 NotConnected ∷ Refused 8 NotConnected ∷ [])
+
+-- `session a on 0 | session b on 1 | a: put 0 7 | go | a: commit | crash 0 at mark keep all-1 | go | b: get 0`
+abbrev pub crash_at_mark : ScriptParts
+crash_at_mark =
+    script 2 9 (0 ∷ 1 ∷ []) (((2, Session 0 0) ∷ (3, Session 1 1) ∷ (4, Statement 0 (Put 0 (Num (pos 7)))) ∷ [])
+    ∷ ((6, Statement 0 Commit) ∷ (7, CrashMark 0 (AllBut 1)) ∷ []) ∷ ((9, Statement 1 (Get 0)) ∷ []) ∷ [])
+
+-- the mark is lost with its instance
+abbrev pub mark_lost : Past
+mark_lost =
+    reverse (Opened 0 0 ∷ Opened 1 1 ∷ Started 4 0 0 ∷ Changed 4 first_xid 0 Absent (Num (pos 7)) ∷ Started 6 0 0
+    ∷ Marked 6 first_xid 2 ∷ Crashed 7 0 ∷ Refused 6 Lost ∷ Recovered 1 ∷ Started 9 1 2 ∷ Rows 9 [] ∷ [])
+
+-- the transaction is marked before its commit started
+abbrev pub early_mark : Past
+early_mark =
+    reverse (Opened 0 0 ∷ Opened 1 1 ∷ Started 4 0 0 ∷ Changed 4 first_xid 0 Absent (Num (pos 7))
+    ∷ Marked 6 first_xid 2 ∷ [])
+
+-- `crash 1 after 0 keep 0 | go | remaster 0 to 1 | checkpoint 1 | crash 1 after 0 keep 0 | start 0`
+abbrev pub nothing_to_do : ScriptParts
+nothing_to_do =
+    script 2 7 [] (((2, CrashAfter 1 0 (First 0)) ∷ []) ∷ ((4, Remaster 0 1) ∷ (5, Checkpoint 1)
+    ∷ (6, CrashAfter 1 0 (First 0)) ∷ (7, Start 0) ∷ []) ∷ [])
+
+abbrev pub all_not_done : Past
+all_not_done = reverse (Crashed 2 1 ∷ Recovered 2 ∷ NotDone 4 ∷ NotDone 5 ∷ NotDone 6 ∷ NotDone 7 ∷ [])
+
+-- a line is answered twice
+abbrev pub one_twice : Past
+one_twice = reverse (Crashed 2 1 ∷ NotDone 4 ∷ NotDone 4 ∷ [])
+
+-- another instance crashes than the line names
+abbrev pub other_crashes : Past
+other_crashes = reverse (Crashed 2 0 ∷ [])

@@ -1,0 +1,6 @@
+pub mod Examples
+pub mod Waves
+pub mod Turns
+pub mod ControlLines
+pub mod Hold
+pub mod Good

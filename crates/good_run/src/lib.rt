@@ -1,0 +1,10 @@
+//! What a run of a script promises of its journal: each line is answered as it asks and in its turn.
+#![tactic(auto)]
+
+mod examples;
+mod laws;
+
+pub use examples::{
+    all_lines_are_answered, controls_are_asked, holds_are_kept, lines_have_their_turns,
+};
+pub use laws::only_a_new_number_moves_a_wave;
