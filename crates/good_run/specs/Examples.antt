@@ -3,7 +3,7 @@
 use Rattle.std.specs.Prelude.{ℕ, pos, List, [], ◌∷◌, false, reverse, codes, map}
 use Rattle.base_types.specs.declared.names.Xid.{Xid}
 use Rattle.base_types.specs.declared.value.Value.TheVariants.{Absent, Num}
-use Rattle.journal.specs.declared.cause.Cause.TheVariants.{Lost, NotConnected}
+use Rattle.journal.specs.declared.cause.Cause.TheVariants.{Busy, Overflow, NoSavepoint, Lost, NotConnected}
 use Rattle.journal.specs.declared.entry.Entry.TheVariants.{Opened, Started, Rows, Changed, Marked, Committed, Acked}
 use Rattle.journal.specs.declared.entry.Entry.TheVariants.{Rolled, Plain, Refused, Crashed, Ended, Recovered, Up, NotDone}
 use Rattle.journal.specs.Past.{Past}
@@ -11,7 +11,7 @@ use Rattle.script_text.specs.declared.item.Item.{Item}
 use Rattle.script_text.specs.declared.item.Item.TheVariants.{Session, CrashAfter, CrashMark, Start, Remaster, Checkpoint, Hold}
 use Rattle.script_text.specs.declared.item.Item.TheVariants.{Stmt as Statement}
 use Rattle.script_text.specs.declared.item.Keep.TheVariants.{First, AllBut}
-use Rattle.script_text.specs.declared.item.Stmt.TheVariants.{Get, Put, Commit}
+use Rattle.script_text.specs.declared.item.Stmt.TheVariants.{Get, Put, Add, Commit, RollbackTo}
 use Rattle.script_text.specs.ScriptParts.{ScriptParts}
 use Rattle.script_text.specs.Limits.{default_undo, default_cache, default_seed}
 
@@ -163,3 +163,52 @@ one_twice = reverse (Crashed 2 1 ∷ NotDone 4 ∷ NotDone 4 ∷ [])
 -- another instance crashes than the line names
 abbrev pub other_crashes : Past
 other_crashes = reverse (Crashed 2 0 ∷ [])
+
+-- the commit is refused as lost before its instance is
+abbrev pub early_loss : Past
+early_loss =
+    reverse (Opened 0 0 ∷ Opened 1 1 ∷ Started 4 0 0 ∷ Changed 4 first_xid 0 Absent (Num (pos 7)) ∷ Started 6 0 0
+    ∷ Marked 6 first_xid 2 ∷ Refused 6 Lost ∷ Crashed 7 0 ∷ [])
+
+-- the commit isn't told that its instance is lost
+abbrev pub untold_loss : Past
+untold_loss =
+    reverse (Opened 0 0 ∷ Opened 1 1 ∷ Started 4 0 0 ∷ Changed 4 first_xid 0 Absent (Num (pos 7)) ∷ Started 6 0 0
+    ∷ Marked 6 first_xid 2 ∷ Crashed 7 0 ∷ [])
+
+-- `session a on 0 | session b on 0 | a: put 0 1 | b: put 0 2`
+abbrev pub two_writers : ScriptParts
+two_writers =
+    script 1 5 (0 ∷ 0 ∷ []) (((2, Session 0 0) ∷ (3, Session 1 0) ∷ (4, Statement 0 (Put 0 (Num (pos 1))))
+    ∷ (5, Statement 1 (Put 0 (Num (pos 2)))) ∷ []) ∷ [])
+
+abbrev pub row_is_held : Past
+row_is_held =
+    reverse (Opened 0 0 ∷ Opened 1 0 ∷ Started 4 0 0 ∷ Changed 4 first_xid 0 Absent (Num (pos 1)) ∷ Started 5 1 0
+    ∷ Refused 5 (Busy first_xid) ∷ [])
+
+-- nobody holds the row
+abbrev pub row_is_free : Past
+row_is_free = reverse (Opened 0 0 ∷ Opened 1 0 ∷ Started 5 1 0 ∷ Refused 5 (Busy first_xid) ∷ [])
+
+-- the instance is up
+abbrev pub instance_is_up : Past
+instance_is_up = reverse (Opened 0 0 ∷ Opened 1 0 ∷ Refused 5 NotConnected ∷ [])
+
+-- `session a on 0 | a: put 0 9223372036854775807 | a: add 0 1 | a: rollback to p`
+abbrev pub largest : ScriptParts
+largest =
+    script 1 5 (0 ∷ []) (((2, Session 0 0) ∷ (3, Statement 0 (Put 0 (Num (pos 9223372036854775807))))
+    ∷ (4, Statement 0 (Add 0 (pos 1))) ∷ (5, Statement 0 (RollbackTo (codes "p"))) ∷ []) ∷ [])
+
+abbrev pub sum_is_outside : Past
+sum_is_outside =
+    reverse (Opened 0 0 ∷ Started 3 0 0 ∷ Changed 3 first_xid 0 Absent (Num (pos 9223372036854775807))
+    ∷ Started 4 0 0 ∷ Refused 4 (Overflow (pos 9223372036854775807) (pos 1)) ∷ Started 5 0 0
+    ∷ Refused 5 NoSavepoint ∷ [])
+
+-- the sum is outside, and the add is told that another holds the row
+abbrev pub wrong_cause : Past
+wrong_cause =
+    reverse (Opened 0 0 ∷ Started 3 0 0 ∷ Changed 3 first_xid 0 Absent (Num (pos 9223372036854775807))
+    ∷ Started 4 0 0 ∷ Refused 4 (Busy first_xid) ∷ [])

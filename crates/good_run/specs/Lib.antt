@@ -3,4 +3,5 @@ pub mod Waves
 pub mod Turns
 pub mod ControlLines
 pub mod Hold
+pub mod Refusals
 pub mod Good

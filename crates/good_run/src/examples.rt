@@ -1,10 +1,12 @@
 ghost use Rattle.std.specs.Prelude.{◌≡◌, true, false};
-ghost use Rattle.good_run.specs.Good.{turns_are_kept, controls_are_good, holds_are_good, is_whole};
+ghost use Rattle.good_run.specs.Good.{turns_are_kept, refusals_are_good, controls_are_good, holds_are_good, is_whole};
 ghost use Rattle.good_run.specs.Examples.{one_change, one_by_one, all_at_once, put_again, commit_again, unasked_rollback};
 ghost use Rattle.good_run.specs.Examples.{crash_and_start, opened_once, opened_twice};
 ghost use Rattle.good_run.specs.Examples.{crash_before_get, get_after_crash, get_after_end, get_before_crash};
 ghost use Rattle.good_run.specs.Examples.{held, reader_around, writer_first, reader_first, held_while_down, both_refused};
-ghost use Rattle.good_run.specs.Examples.{crash_at_mark, mark_lost, early_mark};
+ghost use Rattle.good_run.specs.Examples.{crash_at_mark, mark_lost, early_mark, early_loss, untold_loss};
+ghost use Rattle.good_run.specs.Examples.{two_writers, row_is_held, row_is_free, instance_is_up};
+ghost use Rattle.good_run.specs.Examples.{largest, sum_is_outside, wrong_cause};
 ghost use Rattle.good_run.specs.Examples.{nothing_to_do, all_not_done, one_twice, other_crashes};
 
 /// Examples of journals in which each line has its turn, and of ones in which one hasn't.
@@ -46,4 +48,19 @@ pub fn all_lines_are_answered()
     ensures mark_lost { is_whole crash_at_mark mark_lost ≡ true }
     ensures all_not_done { is_whole nothing_to_do all_not_done ≡ true }
     ensures other_crashes { is_whole nothing_to_do other_crashes ≡ false }
+{}
+
+/// Examples of journals in which refusals have their causes, and of others.
+pub fn refusals_have_causes()
+    ensures one_by_one { refusals_are_good one_change one_by_one ≡ true }
+    ensures opened_once { refusals_are_good crash_and_start opened_once ≡ true }
+    ensures both_refused { refusals_are_good held_while_down both_refused ≡ true }
+    ensures mark_lost { refusals_are_good crash_at_mark mark_lost ≡ true }
+    ensures early_loss { refusals_are_good crash_at_mark early_loss ≡ false }
+    ensures untold_loss { refusals_are_good crash_at_mark untold_loss ≡ false }
+    ensures row_is_held { refusals_are_good two_writers row_is_held ≡ true }
+    ensures row_is_free { refusals_are_good two_writers row_is_free ≡ false }
+    ensures instance_is_up { refusals_are_good two_writers instance_is_up ≡ false }
+    ensures sum_is_outside { refusals_are_good largest sum_is_outside ≡ true }
+    ensures wrong_cause { refusals_are_good largest wrong_cause ≡ false }
 {}
