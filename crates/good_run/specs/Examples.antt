@@ -5,13 +5,13 @@ use Rattle.base_types.specs.declared.names.Xid.{Xid}
 use Rattle.base_types.specs.declared.value.Value.TheVariants.{Absent, Num}
 use Rattle.journal.specs.declared.cause.Cause.TheVariants.{Busy, Overflow, NoSavepoint, Lost, NotConnected}
 use Rattle.journal.specs.declared.entry.Entry.TheVariants.{Opened, Started, Rows, Changed, Marked, Committed, Acked}
-use Rattle.journal.specs.declared.entry.Entry.TheVariants.{Rolled, Plain, Refused, Crashed, Ended, Recovered, Up, NotDone}
+use Rattle.journal.specs.declared.entry.Entry.TheVariants.{Undone, Rolled, Plain, Refused, Crashed, Ended, Recovered, Up, NotDone}
 use Rattle.journal.specs.Past.{Past}
 use Rattle.script_text.specs.declared.item.Item.{Item}
 use Rattle.script_text.specs.declared.item.Item.TheVariants.{Session, CrashAfter, CrashMark, Start, Remaster, Checkpoint, Hold}
 use Rattle.script_text.specs.declared.item.Item.TheVariants.{Stmt as Statement}
-use Rattle.script_text.specs.declared.item.Keep.TheVariants.{First, AllBut}
-use Rattle.script_text.specs.declared.item.Stmt.TheVariants.{Get, Put, Add, Commit, RollbackTo}
+use Rattle.script_text.specs.declared.item.Keep.TheVariants.{First, All, AllBut}
+use Rattle.script_text.specs.declared.item.Stmt.TheVariants.{Get, Scan, Put, Add, Commit, RollbackTo}
 use Rattle.script_text.specs.ScriptParts.{ScriptParts}
 use Rattle.script_text.specs.Limits.{default_undo, default_cache, default_seed}
 
@@ -212,3 +212,49 @@ abbrev pub wrong_cause : Past
 wrong_cause =
     reverse (Opened 0 0 ∷ Started 3 0 0 ∷ Changed 3 first_xid 0 Absent (Num (pos 9223372036854775807))
     ∷ Started 4 0 0 ∷ Refused 4 (Busy first_xid) ∷ [])
+
+-- the first transaction of an instance
+abbrev pub xid_of : ℕ → Xid
+xid_of inst = record { seg = inst; slot = 0; wrap = 1 }
+
+-- `session r on 0 | session m on 0 | r: put 0 1 | r: put 8 1 | r: commit | go | hold r until m | r: scan 0 15
+-- | m: put 0 2 | m: put 8 2 | m: commit | go | r: scan 0 15`
+abbrev pub held_scan : ScriptParts
+held_scan =
+    script 1 14 (0 ∷ 0 ∷ []) (((2, Session 0 0) ∷ (3, Session 1 0) ∷ (4, Statement 0 (Put 0 (Num (pos 1))))
+    ∷ (5, Statement 0 (Put 8 (Num (pos 1)))) ∷ (6, Statement 0 Commit) ∷ [])
+    ∷ ((8, Hold 0 1) ∷ (9, Statement 0 (Scan 0 15)) ∷ (10, Statement 1 (Put 0 (Num (pos 2))))
+    ∷ (11, Statement 1 (Put 8 (Num (pos 2)))) ∷ (12, Statement 1 Commit) ∷ [])
+    ∷ ((14, Statement 0 (Scan 0 15)) ∷ []) ∷ [])
+
+-- the second transaction of instance 0, in another slot
+abbrev pub second_xid : Xid
+second_xid = record { seg = 0; slot = 1; wrap = 1 }
+
+-- the scan tells the table as it started, after the other session has committed
+abbrev pub scan_as_started : Past
+scan_as_started =
+    reverse (Opened 0 0 ∷ Opened 1 0 ∷ Started 4 0 0 ∷ Changed 4 first_xid 0 Absent (Num (pos 1)) ∷ Started 5 0 0
+    ∷ Changed 5 first_xid 8 Absent (Num (pos 1)) ∷ Started 6 0 0 ∷ Marked 6 first_xid 2 ∷ Committed first_xid 2 0
+    ∷ Acked 6 first_xid 2 ∷ Started 9 0 2 ∷ Started 10 1 2 ∷ Changed 10 second_xid 0 (Num (pos 1)) (Num (pos 2))
+    ∷ Started 11 1 2 ∷ Changed 11 second_xid 8 (Num (pos 1)) (Num (pos 2)) ∷ Started 12 1 2 ∷ Marked 12 second_xid 3
+    ∷ Committed second_xid 3 0 ∷ Acked 12 second_xid 3 ∷ Rows 9 ((0, Num (pos 1)) ∷ (8, Num (pos 1)) ∷ [])
+    ∷ Started 14 0 3 ∷ Rows 14 ((0, Num (pos 2)) ∷ (8, Num (pos 2)) ∷ []) ∷ [])
+
+-- `session a on 0 | session b on 1 | a: put 0 1 | a: commit | go | b: put 0 2 | crash 2 after 9 keep 0
+-- | crash 0 after 9 keep 0 | go | crash 1 after 0 keep all | go | start 1 | go | session d on 1 | d: get 0`
+abbrev pub three_crashes : ScriptParts
+three_crashes =
+    script 3 16 (0 ∷ 1 ∷ 1 ∷ []) (((2, Session 0 0) ∷ (3, Session 1 1) ∷ (4, Statement 0 (Put 0 (Num (pos 1))))
+    ∷ (5, Statement 0 Commit) ∷ [])
+    ∷ ((7, Statement 1 (Put 0 (Num (pos 2)))) ∷ (8, CrashAfter 2 9 (First 0)) ∷ (9, CrashAfter 0 9 (First 0)) ∷ [])
+    ∷ ((11, CrashAfter 1 0 All) ∷ []) ∷ ((13, Start 1) ∷ []) ∷ ((15, Session 2 1) ∷ (16, Statement 2 (Get 0)) ∷ []) ∷ [])
+
+-- a crash comes while the put is under way; the transaction is rolled back as its instance starts
+abbrev pub all_crash : Past
+all_crash =
+    reverse (Opened 0 0 ∷ Opened 1 1 ∷ Started 4 0 0 ∷ Changed 4 first_xid 0 Absent (Num (pos 1)) ∷ Started 5 0 0
+    ∷ Marked 5 first_xid 2 ∷ Committed first_xid 2 0 ∷ Acked 5 first_xid 2 ∷ Started 7 1 2 ∷ Crashed 8 2
+    ∷ Changed 7 (xid_of 1) 0 (Num (pos 1)) (Num (pos 2)) ∷ Crashed 9 0 ∷ Recovered 5 ∷ Crashed 11 1 ∷ Recovered 2
+    ∷ Undone (xid_of 1) 0 ∷ Rolled (xid_of 1) ∷ Up 13 1 ∷ Opened 2 1 ∷ Started 16 2 2
+    ∷ Rows 16 ((0, Num (pos 1)) ∷ []) ∷ [])
