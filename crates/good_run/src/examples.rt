@@ -73,4 +73,9 @@ pub fn longer_runs_are_good()
     ensures scan_control_lines { controls_are_good held_scan scan_as_started ≡ true }
     ensures scan_hold { holds_are_good held_scan scan_as_started ≡ true }
     ensures scan_answered { is_whole held_scan scan_as_started ≡ true }
+    ensures crashes_turns { turns_are_kept three_crashes all_crash ≡ true }
+    ensures crashes_refusals { refusals_are_good three_crashes all_crash ≡ true }
+    ensures crashes_control_lines { controls_are_good three_crashes all_crash ≡ true }
+    ensures crashes_hold { holds_are_good three_crashes all_crash ≡ true }
+    ensures crashes_answered { is_whole three_crashes all_crash ≡ true }
 {}

@@ -9,4 +9,4 @@ pub use examples::{
     all_lines_are_answered, controls_are_asked, holds_are_kept, lines_have_their_turns,
 };
 pub use laws::only_a_new_number_moves_a_wave;
-pub use whole::one_run_is_good;
+pub use whole::whole_runs_are_good;
