@@ -1,7 +1,8 @@
 -- Scripts and journals that show what the clauses of a good journal take and refuse. Line 1 of each script says how
 -- many instances there are; journals stand here in the order in which they were made.
-use Rattle.std.specs.Prelude.{ℕ, pos, List, [], ◌∷◌, false, reverse, codes, map}
+use Rattle.std.specs.Prelude.{ℕ, pos, neg_ℤ, List, [], ◌∷◌, false, reverse, codes, map}
 use Rattle.base_types.specs.declared.names.Xid.{Xid}
+use Rattle.base_types.specs.declared.value.Value.{Value}
 use Rattle.base_types.specs.declared.value.Value.TheVariants.{Absent, Num}
 use Rattle.journal.specs.declared.cause.Cause.TheVariants.{Busy, Overflow, NoSavepoint, Lost, NotConnected}
 use Rattle.journal.specs.declared.entry.Entry.TheVariants.{Opened, Started, Rows, Changed, Marked, Committed, Acked}
@@ -258,3 +259,51 @@ all_crash =
     ∷ Changed 7 (xid_of 1) 0 (Num (pos 1)) (Num (pos 2)) ∷ Crashed 9 0 ∷ Recovered 5 ∷ Crashed 11 1 ∷ Recovered 2
     ∷ Undone (xid_of 1) 0 ∷ Rolled (xid_of 1) ∷ Up 13 1 ∷ Opened 2 1 ∷ Started 16 2 2
     ∷ Rows 16 ((0, Num (pos 1)) ∷ []) ∷ [])
+
+-- `session a on 0 | session b on 0 | session c on 1 | session d on 1 | session e on 2 | session f on 2` on the lines 3
+-- to 8, and then `a: put 0 100 | a: put 1 100 | a: put 8 100 | a: commit | go | c: add 0 -30 | c: add 8 30 | c: commit
+-- | go | e: add 8 -5 | e: add 1 5 | go | d: scan 0 15 | b: add 8 1 | go | crash 2 after 0 keep all | go | b: scan 0 15
+-- | f: get 0 | start 2 | go | session g on 2 | g: add 1 -20 | g: add 0 20 | g: commit | go | a: scan 0 15`
+abbrev pub transfers : ScriptParts
+transfers =
+    script 3 35 (0 ∷ 0 ∷ 1 ∷ 1 ∷ 2 ∷ 2 ∷ 2 ∷ []) (((3, Session 0 0) ∷ (4, Session 1 0) ∷ (5, Session 2 1)
+    ∷ (6, Session 3 1) ∷ (7, Session 4 2) ∷ (8, Session 5 2) ∷ (9, Statement 0 (Put 0 (Num (pos 100))))
+    ∷ (10, Statement 0 (Put 1 (Num (pos 100)))) ∷ (11, Statement 0 (Put 8 (Num (pos 100)))) ∷ (12, Statement 0 Commit)
+    ∷ [])
+    ∷ ((14, Statement 2 (Add 0 (neg_ℤ (pos 30)))) ∷ (15, Statement 2 (Add 8 (pos 30))) ∷ (16, Statement 2 Commit) ∷ [])
+    ∷ ((18, Statement 4 (Add 8 (neg_ℤ (pos 5)))) ∷ (19, Statement 4 (Add 1 (pos 5))) ∷ [])
+    ∷ ((21, Statement 3 (Scan 0 15)) ∷ (22, Statement 1 (Add 8 (pos 1))) ∷ [])
+    ∷ ((24, CrashAfter 2 0 All) ∷ [])
+    ∷ ((26, Statement 1 (Scan 0 15)) ∷ (27, Statement 5 (Get 0)) ∷ (28, Start 2) ∷ [])
+    ∷ ((30, Session 6 2) ∷ (31, Statement 6 (Add 1 (neg_ℤ (pos 20)))) ∷ (32, Statement 6 (Add 0 (pos 20)))
+    ∷ (33, Statement 6 Commit) ∷ [])
+    ∷ ((35, Statement 0 (Scan 0 15)) ∷ []) ∷ [])
+
+-- the transaction of the session `g`
+abbrev pub late_xid : Xid
+late_xid = record { seg = 2; slot = 1; wrap = 1 }
+
+-- what stands at SCN 3
+abbrev pub rows_at_3 : List (ℕ × Value)
+rows_at_3 = (0, Num (pos 70)) ∷ (1, Num (pos 100)) ∷ (8, Num (pos 130)) ∷ []
+
+-- what is open at a crash is rolled back, and the sum of the rows stays
+abbrev pub sum_stays : Past
+sum_stays =
+    reverse (Opened 0 0 ∷ Opened 1 0 ∷ Opened 2 1 ∷ Opened 3 1 ∷ Opened 4 2 ∷ Opened 5 2
+    ∷ Started 9 0 0 ∷ Changed 9 first_xid 0 Absent (Num (pos 100)) ∷ Started 10 0 0
+    ∷ Changed 10 first_xid 1 Absent (Num (pos 100)) ∷ Started 11 0 0
+    ∷ Changed 11 first_xid 8 Absent (Num (pos 100)) ∷ Started 12 0 0 ∷ Marked 12 first_xid 2
+    ∷ Committed first_xid 2 0 ∷ Acked 12 first_xid 2
+    ∷ Started 14 2 2 ∷ Changed 14 (xid_of 1) 0 (Num (pos 100)) (Num (pos 70)) ∷ Started 15 2 2
+    ∷ Changed 15 (xid_of 1) 8 (Num (pos 100)) (Num (pos 130)) ∷ Started 16 2 2 ∷ Marked 16 (xid_of 1) 3
+    ∷ Committed (xid_of 1) 3 1 ∷ Acked 16 (xid_of 1) 3
+    ∷ Started 18 4 3 ∷ Changed 18 (xid_of 2) 8 (Num (pos 130)) (Num (pos 125)) ∷ Started 19 4 3
+    ∷ Changed 19 (xid_of 2) 1 (Num (pos 100)) (Num (pos 105))
+    ∷ Started 21 3 3 ∷ Rows 21 rows_at_3 ∷ Started 22 1 3 ∷ Refused 22 (Busy (xid_of 2))
+    ∷ Crashed 24 2 ∷ Recovered 4 ∷ Undone (xid_of 2) 0 ∷ Rolled (xid_of 2)
+    ∷ Started 26 1 3 ∷ Rows 26 rows_at_3 ∷ Refused 27 NotConnected ∷ Up 28 2
+    ∷ Opened 6 2 ∷ Started 31 6 3 ∷ Changed 31 late_xid 1 (Num (pos 100)) (Num (pos 80)) ∷ Started 32 6 3
+    ∷ Changed 32 late_xid 0 (Num (pos 70)) (Num (pos 90)) ∷ Started 33 6 3 ∷ Marked 33 late_xid 4
+    ∷ Committed late_xid 4 2 ∷ Acked 33 late_xid 4
+    ∷ Started 35 0 4 ∷ Rows 35 ((0, Num (pos 90)) ∷ (1, Num (pos 80)) ∷ (8, Num (pos 130)) ∷ []) ∷ [])

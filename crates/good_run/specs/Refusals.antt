@@ -8,7 +8,6 @@ use Rattle.base_types.specs.declared.names.Xid.{Xid}
 use Rattle.journal.specs.declared.cause.Cause.{Cause}
 use Rattle.journal.specs.declared.cause.Cause.TheVariants as causes
 use Rattle.journal.specs.declared.deeds.Commit.{Commit}
-use Rattle.journal.specs.declared.deeds.Start.{Start}
 use Rattle.journal.specs.declared.entry.Entry.{Entry}
 use Rattle.journal.specs.declared.entry.Entry.TheVariants.{Changed, Locked, Refused}
 use Rattle.journal.specs.Past.{Past, same_xid, start_of, is_loss_of, is_up}

@@ -1,9 +1,10 @@
 -- Which wave of a script a place of a journal is in.
-use Rattle.std.specs.Prelude.{ℕ, ◌+◌, List, [], ◌∷◌, Bool, true, ◌==◌, ◌&&◌, take, slice_index_or}
+use Rattle.std.specs.Prelude.{ℕ, ◌+◌, List, [], ◌∷◌, Bool, true, false, ◌==◌, ◌&&◌, take, slice_index_or}
 use Rattle.std.specs.List.{list_any}
 use Rattle.journal.specs.declared.entry.Entry.{Entry}
 use Rattle.journal.specs.Past.{Past}
 use Rattle.script_text.specs.declared.item.Item.{Item}
+use Rattle.script_text.specs.declared.item.Item.TheVariants.{CrashAfter, CrashMark, Start}
 use Rattle.script_text.specs.ScriptParts.{ScriptParts}
 use Rattle.script_text.specs.Lines.{current_wave}
 use Rattle.script_text.specs.Reading.{joined}
@@ -27,3 +28,10 @@ lines_in parts wave = slice_index_or parts.waves wave []
 abbrev pub has_begun : (ℕ → Bool) → ScriptParts → Past → ℕ → Bool
 has_begun ever parts past line =
     list_any (λ item. item.0 == line) (joined (take (wave_at ever parts past + 1) parts.waves))
+
+-- whether the end of an instance may answer a line: a crash or a start line
+abbrev pub may_end : Item → Bool
+may_end (CrashAfter inst steps keep) = true
+may_end (CrashMark inst keep) = true
+may_end (Start inst) = true
+may_end _ = false

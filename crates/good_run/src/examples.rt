@@ -8,7 +8,6 @@ ghost use Rattle.good_run.specs.Examples.{crash_at_mark, mark_lost, early_mark, 
 ghost use Rattle.good_run.specs.Examples.{two_writers, row_is_held, row_is_free, instance_is_up};
 ghost use Rattle.good_run.specs.Examples.{largest, sum_is_outside, wrong_cause};
 ghost use Rattle.good_run.specs.Examples.{nothing_to_do, all_not_done, one_twice, other_crashes};
-ghost use Rattle.good_run.specs.Examples.{held_scan, scan_as_started, three_crashes, all_crash};
 
 /// Examples of journals in which each line has its turn, and of ones in which one hasn't.
 pub fn lines_have_their_turns()
@@ -64,18 +63,4 @@ pub fn refusals_have_causes()
     ensures instance_is_up { refusals_are_good two_writers instance_is_up ≡ false }
     ensures sum_is_outside { refusals_are_good largest sum_is_outside ≡ true }
     ensures wrong_cause { refusals_are_good largest wrong_cause ≡ false }
-{}
-
-/// Examples of longer runs that are good: a scan that another session changes under, and crashes of all instances.
-pub fn longer_runs_are_good()
-    ensures scan_turns { turns_are_kept held_scan scan_as_started ≡ true }
-    ensures scan_refusals { refusals_are_good held_scan scan_as_started ≡ true }
-    ensures scan_control_lines { controls_are_good held_scan scan_as_started ≡ true }
-    ensures scan_hold { holds_are_good held_scan scan_as_started ≡ true }
-    ensures scan_answered { is_whole held_scan scan_as_started ≡ true }
-    ensures crashes_turns { turns_are_kept three_crashes all_crash ≡ true }
-    ensures crashes_refusals { refusals_are_good three_crashes all_crash ≡ true }
-    ensures crashes_control_lines { controls_are_good three_crashes all_crash ≡ true }
-    ensures crashes_hold { holds_are_good three_crashes all_crash ≡ true }
-    ensures crashes_answered { is_whole three_crashes all_crash ≡ true }
 {}

@@ -4,7 +4,8 @@ ghost use Rattle.good_run.specs.Examples.{one_change, one_by_one, crash_and_star
 ghost use Rattle.good_run.specs.Examples.{crash_before_get, get_after_crash, held, reader_around};
 ghost use Rattle.good_run.specs.Examples.{held_while_down, both_refused, crash_at_mark, mark_lost};
 ghost use Rattle.good_run.specs.Examples.{nothing_to_do, all_not_done, two_writers, row_is_held};
-ghost use Rattle.good_run.specs.Examples.{largest, sum_is_outside};
+ghost use Rattle.good_run.specs.Examples.{largest, sum_is_outside, held_scan, scan_as_started};
+ghost use Rattle.good_run.specs.Examples.{three_crashes, all_crash, transfers, sum_stays};
 
 /// Examples of runs that are good by all clauses.
 pub fn whole_runs_are_good()
@@ -17,4 +18,7 @@ pub fn whole_runs_are_good()
     ensures all_not_done { Good (λ status. status == 0) nothing_to_do 0 all_not_done }
     ensures row_is_held { Good (λ status. status == 0) two_writers 0 row_is_held }
     ensures sum_is_outside { Good (λ status. status == 0) largest 0 sum_is_outside }
+    ensures scan_as_started { Good (λ status. status == 0) held_scan 0 scan_as_started }
+    ensures all_crash { Good (λ status. status == 0) three_crashes 0 all_crash }
+    ensures sum_stays { Good (λ status. status == 0) transfers 0 sum_stays }
 {}
