@@ -1,10 +1,11 @@
 -- Scripts and journals that show what the clauses of a good journal take and refuse. Line 1 of each script says how
 -- many instances there are; journals stand here in the order in which they were made.
-use Rattle.std.specs.Prelude.{ℕ, pos, neg_ℤ, List, [], ◌∷◌, false, reverse, codes, map}
+use Rattle.std.specs.Prelude.{ℕ, pos, neg_ℤ, List, [], ◌∷◌, false, reverse, codes, map, ◌++◌, flat_map}
 use Rattle.base_types.specs.declared.names.Xid.{Xid}
 use Rattle.base_types.specs.declared.value.Value.{Value}
 use Rattle.base_types.specs.declared.value.Value.TheVariants.{Absent, Num}
-use Rattle.journal.specs.declared.cause.Cause.TheVariants.{Busy, Overflow, NoSavepoint, Lost, NotConnected}
+use Rattle.journal.specs.declared.cause.Cause.TheVariants.{Busy, OldUndo, Overflow, NoSavepoint, Lost, NotConnected}
+use Rattle.journal.specs.declared.entry.Entry.{Entry}
 use Rattle.journal.specs.declared.entry.Entry.TheVariants.{Opened, Started, Rows, Changed, Marked, Committed, Acked}
 use Rattle.journal.specs.declared.entry.Entry.TheVariants.{Undone, Rolled, Plain, Refused, Crashed, Ended, Recovered, Up, NotDone}
 use Rattle.journal.specs.Past.{Past}
@@ -307,3 +308,53 @@ sum_stays =
     ∷ Changed 32 late_xid 0 (Num (pos 70)) (Num (pos 90)) ∷ Started 33 6 3 ∷ Marked 33 late_xid 4
     ∷ Committed late_xid 4 2 ∷ Acked 33 late_xid 4
     ∷ Started 35 0 4 ∷ Rows 35 ((0, Num (pos 90)) ∷ (1, Num (pos 80)) ∷ (8, Num (pos 130)) ∷ []) ∷ [])
+
+-- the get tells what was lost with the mark
+abbrev pub lost_row_is_read : Past
+lost_row_is_read =
+    reverse (Opened 0 0 ∷ Opened 1 1 ∷ Started 4 0 0 ∷ Changed 4 first_xid 0 Absent (Num (pos 7)) ∷ Started 6 0 0
+    ∷ Marked 6 first_xid 2 ∷ Crashed 7 0 ∷ Refused 6 Lost ∷ Recovered 1 ∷ Started 9 1 2
+    ∷ Rows 9 ((0, Num (pos 7)) ∷ []) ∷ [])
+
+-- the get is answered twice
+abbrev pub answered_twice : Past
+answered_twice = reverse (Opened 0 0 ∷ Crashed 3 1 ∷ Started 5 0 0 ∷ Rows 5 [] ∷ Rows 5 [] ∷ [])
+
+-- `undo 8 | session r on 0 | session m on 0 | m: put 0 1 | m: commit | go | hold r until m | r: get 0 | m: put 0 2
+-- | m: commit`, eight times `m: put 8 1`, and `m: commit`
+abbrev pub little_undo : ScriptParts
+little_undo = record {
+  settings = record { instances = 1; blocks = 8; undo = 8; cache = default_cache; seed = default_seed };
+  lines = 20;
+  names = codes "r" ∷ codes "m" ∷ [];
+  homes = 0 ∷ 0 ∷ [];
+  waves =
+      ((3, Session 0 0) ∷ (4, Session 1 0) ∷ (5, Statement 1 (Put 0 (Num (pos 1)))) ∷ (6, Statement 1 Commit) ∷ [])
+      ∷ ((8, Hold 0 1) ∷ (9, Statement 0 (Get 0)) ∷ (10, Statement 1 (Put 0 (Num (pos 2)))) ∷ (11, Statement 1 Commit)
+      ∷ (map (λ line. (line, Statement 1 (Put 8 (Num (pos 1)))))
+      (12 ∷ 13 ∷ 14 ∷ 15 ∷ 16 ∷ 17 ∷ 18 ∷ 19 ∷ []) ++ (20, Statement 1 Commit) ∷ [])) ∷ [];
+}
+
+-- the third transaction of instance 0
+abbrev pub third_xid : Xid
+third_xid = record { seg = 0; slot = 2; wrap = 1 }
+
+-- the reader waits, and the other session writes so many rows; these puts find what the one before left
+abbrev pub written : List ℕ → List Entry
+written lines =
+    Opened 0 0 ∷ Opened 1 0 ∷ Started 5 1 0 ∷ Changed 5 first_xid 0 Absent (Num (pos 1)) ∷ Started 6 1 0
+    ∷ Marked 6 first_xid 2 ∷ Committed first_xid 2 0 ∷ Acked 6 first_xid 2 ∷ Started 9 0 2 ∷ Started 10 1 2
+    ∷ Changed 10 second_xid 0 (Num (pos 1)) (Num (pos 2)) ∷ Started 11 1 2 ∷ Marked 11 second_xid 3
+    ∷ Committed second_xid 3 0 ∷ Acked 11 second_xid 3 ∷ Started 12 1 3 ∷ Changed 12 third_xid 8 Absent (Num (pos 1))
+    ∷ flat_map (λ line. Started line 1 3 ∷ Changed line third_xid 8 (Num (pos 1)) (Num (pos 1)) ∷ []) lines
+
+-- the reader's undo is overwritten by the last of them
+abbrev pub undo_is_old : Past
+undo_is_old =
+    reverse (written (13 ∷ 14 ∷ 15 ∷ 16 ∷ 17 ∷ 18 ∷ 19 ∷ []) ++ Started 20 1 3 ∷ Marked 20 third_xid 4
+    ∷ Committed third_xid 4 0 ∷ Acked 20 third_xid 4 ∷ Refused 9 (OldUndo second_xid 2 10) ∷ [])
+
+-- one put earlier it isn't
+abbrev pub undo_is_there : Past
+undo_is_there =
+    reverse (written (13 ∷ 14 ∷ 15 ∷ 16 ∷ 17 ∷ 18 ∷ []) ++ Refused 9 (OldUndo second_xid 2 10) ∷ [])

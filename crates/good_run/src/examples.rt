@@ -1,4 +1,7 @@
 ghost use Rattle.std.specs.Prelude.{◌≡◌, true, false};
+ghost use Rattle.journal.specs.Good.{GoodRows};
+ghost use Rattle.script_text.specs.Asked.{asked};
+ghost use Rattle.script_text.specs.GoodLines.{GoodLines};
 ghost use Rattle.good_run.specs.Good.{turns_are_kept, refusals_are_good, controls_are_good, holds_are_good, is_whole};
 ghost use Rattle.good_run.specs.Examples.{one_change, one_by_one, all_at_once, put_again, commit_again, unasked_rollback};
 ghost use Rattle.good_run.specs.Examples.{crash_and_start, opened_once, opened_twice};
@@ -8,12 +11,14 @@ ghost use Rattle.good_run.specs.Examples.{crash_at_mark, mark_lost, early_mark, 
 ghost use Rattle.good_run.specs.Examples.{two_writers, row_is_held, row_is_free, instance_is_up};
 ghost use Rattle.good_run.specs.Examples.{largest, sum_is_outside, wrong_cause};
 ghost use Rattle.good_run.specs.Examples.{nothing_to_do, all_not_done, one_twice, other_crashes};
+ghost use Rattle.good_run.specs.Examples.{little_undo, undo_is_old, undo_is_there, lost_row_is_read, answered_twice};
 
 /// Examples of journals in which each line has its turn, and of ones in which one hasn't.
 pub fn lines_have_their_turns()
     ensures one_by_one { turns_are_kept one_change one_by_one ≡ true }
     ensures all_at_once { turns_are_kept one_change all_at_once ≡ false }
     ensures put_again { turns_are_kept one_change put_again ≡ true }
+    ensures undo_is_old { turns_are_kept little_undo undo_is_old ≡ true }
     ensures commit_again { turns_are_kept one_change commit_again ≡ false }
     ensures opened_once { turns_are_kept crash_and_start opened_once ≡ true }
     ensures opened_twice { turns_are_kept crash_and_start opened_twice ≡ false }
@@ -28,6 +33,8 @@ pub fn holds_are_kept()
     ensures writer_first { holds_are_good held writer_first ≡ false }
     ensures reader_first { holds_are_good held reader_first ≡ false }
     ensures both_refused { holds_are_good held_while_down both_refused ≡ true }
+    ensures undo_is_old { holds_are_good little_undo undo_is_old ≡ true }
+    ensures undo_is_there { holds_are_good little_undo undo_is_there ≡ false }
 {}
 
 /// Examples of journals in which control lines, marks and rollbacks stand where they are asked, and of others.
@@ -36,6 +43,7 @@ pub fn controls_are_asked()
     ensures unasked_rollback { controls_are_good one_change unasked_rollback ≡ false }
     ensures mark_lost { controls_are_good crash_at_mark mark_lost ≡ true }
     ensures early_mark { controls_are_good crash_at_mark early_mark ≡ false }
+    ensures undo_is_old { controls_are_good little_undo undo_is_old ≡ true }
     ensures all_not_done { controls_are_good nothing_to_do all_not_done ≡ true }
     ensures one_twice { controls_are_good nothing_to_do one_twice ≡ false }
     ensures other_crashes { controls_are_good nothing_to_do other_crashes ≡ false }
@@ -46,6 +54,8 @@ pub fn all_lines_are_answered()
     ensures one_by_one { is_whole one_change one_by_one ≡ true }
     ensures get_after_end { is_whole crash_before_get get_after_end ≡ true }
     ensures mark_lost { is_whole crash_at_mark mark_lost ≡ true }
+    ensures undo_is_old { is_whole little_undo undo_is_old ≡ true }
+    ensures undo_is_there { is_whole little_undo undo_is_there ≡ false }
     ensures all_not_done { is_whole nothing_to_do all_not_done ≡ true }
     ensures other_crashes { is_whole nothing_to_do other_crashes ≡ false }
 {}
@@ -63,4 +73,12 @@ pub fn refusals_have_causes()
     ensures instance_is_up { refusals_are_good two_writers instance_is_up ≡ false }
     ensures sum_is_outside { refusals_are_good largest sum_is_outside ≡ true }
     ensures wrong_cause { refusals_are_good largest wrong_cause ≡ false }
+    ensures undo_is_old { refusals_are_good little_undo undo_is_old ≡ true }
+    ensures undo_is_there { refusals_are_good little_undo undo_is_there ≡ false }
+{}
+
+/// Examples of journals in which rows, or the lines that are answered, are wrong.
+pub fn rows_and_answers_are_told_once()
+    ensures lost_row_is_read { GoodRows (asked crash_at_mark) lost_row_is_read → ⊥ }
+    ensures answered_twice { GoodLines crash_before_get answered_twice → ⊥ }
 {}

@@ -1,13 +1,16 @@
 ghost use Rattle.std.specs.Prelude.{◌≡◌, ◌↔◌, ℕ, Bool, true, ◌∷◌, ◌++◌};
-ghost use Rattle.std.specs.List.{AllByRecursion};
+ghost use Rattle.std.specs.List.{AllByRecursion, list_any};
 ghost use Rattle.journal.specs.declared.entry.Entry.{Entry};
-ghost use Rattle.journal.specs.Past.{Past};
+ghost use Rattle.base_types.specs.declared.names.Xid.{Xid};
+ghost use Rattle.journal.specs.Past.{Past, same_xid};
+ghost use Rattle.journal.specs.Standing.{is_open};
 ghost use Rattle.script_text.specs.ScriptParts.{ScriptParts};
 ghost use Rattle.script_text.specs.Reading.{items_of};
 ghost use Rattle.run_report.specs.Ends.{answers_any};
 ghost use Rattle.good_run.specs.Waves.{wave_at, each_passes, may_end};
 ghost use Rattle.good_run.specs.Turns.{is_in_turn};
 ghost use Rattle.good_run.specs.ControlLines.{is_controlled};
+ghost use Rattle.good_run.specs.Refusals.{xids_in};
 ghost use Rattle.good_run.specs.Hold.{holds_are_kept};
 
 /// A law: an entry that has no new line number changes the wave of no earlier place, and what is promised of no
@@ -43,4 +46,9 @@ pub fn only_a_crash_or_a_start_moves_a_wave()
 pub fn tests_pass_at_each_place()
     ensures { (test : Past → Entry → Bool) (past : Past) → (each_passes test past ≡ true) ↔
         ((newer older : Past) (e : Entry) → past ≡ newer ++ e ∷ older → test older e ≡ true) }
+{}
+
+/// A law: each open transaction is one of those that the journal's change entries name, of which causes are asked.
+pub fn open_transactions_are_named()
+    ensures { (x : Xid) (past : Past) → is_open x past ≡ true → list_any (same_xid x) (xids_in past) ≡ true }
 {}
