@@ -1,6 +1,6 @@
 -- Scripts and journals that show what the clauses of a good journal take and refuse. Line 1 of each script says how
 -- many instances there are; journals stand here in the order in which they were made.
-use Rattle.std.specs.Prelude.{ℕ, pos, neg_ℤ, List, [], ◌∷◌, false, reverse, codes, map, ◌++◌, flat_map}
+use Rattle.std.specs.Prelude.{ℕ, pos, neg_ℤ, List, [], ◌∷◌, false, reverse, codes, map, ◌++◌, flat_map, drop}
 use Rattle.base_types.specs.declared.names.Xid.{Xid}
 use Rattle.base_types.specs.declared.value.Value.{Value}
 use Rattle.base_types.specs.declared.value.Value.TheVariants.{Absent, Num}
@@ -358,3 +358,21 @@ undo_is_old =
 abbrev pub undo_is_there : Past
 undo_is_there =
     reverse (written (13 ∷ 14 ∷ 15 ∷ 16 ∷ 17 ∷ 18 ∷ []) ++ Refused 9 (OldUndo second_xid 2 10) ∷ [])
+
+-- the last scan of `held_scan` tells what was there before the second commit
+abbrev pub old_rows_are_read : Past
+old_rows_are_read = Rows 14 ((0, Num (pos 1)) ∷ (8, Num (pos 1)) ∷ []) ∷ drop 1 scan_as_started
+
+-- the last get of `three_crashes` tells what was rolled back
+abbrev pub rolled_row_is_read : Past
+rolled_row_is_read = Rows 16 ((0, Num (pos 2)) ∷ []) ∷ drop 1 all_crash
+
+-- the last scan of `transfers` tells the half of a transaction
+abbrev pub half_is_read : Past
+half_is_read = Rows 35 ((0, Num (pos 70)) ∷ (1, Num (pos 80)) ∷ (8, Num (pos 130)) ∷ []) ∷ drop 1 sum_stays
+
+-- the commit of `one_change` is answered before it is on the disk
+abbrev pub acked_too_early : Past
+acked_too_early =
+    reverse (Opened 0 0 ∷ Started 3 0 0 ∷ Changed 3 first_xid 3 Absent (Num (pos 42)) ∷ Started 4 0 0
+    ∷ Marked 4 first_xid 2 ∷ Acked 4 first_xid 2 ∷ [])

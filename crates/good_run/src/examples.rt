@@ -1,5 +1,5 @@
 ghost use Rattle.std.specs.Prelude.{◌≡◌, true, false};
-ghost use Rattle.journal.specs.Good.{GoodRows};
+ghost use Rattle.journal.specs.Good.{GoodRows, GoodJournal};
 ghost use Rattle.script_text.specs.Asked.{asked};
 ghost use Rattle.script_text.specs.GoodLines.{GoodLines};
 ghost use Rattle.good_run.specs.Good.{turns_are_kept, refusals_are_good, controls_are_good, holds_are_good, is_whole};
@@ -12,6 +12,8 @@ ghost use Rattle.good_run.specs.Examples.{two_writers, row_is_held, row_is_free,
 ghost use Rattle.good_run.specs.Examples.{largest, sum_is_outside, wrong_cause};
 ghost use Rattle.good_run.specs.Examples.{nothing_to_do, all_not_done, one_twice, other_crashes};
 ghost use Rattle.good_run.specs.Examples.{little_undo, undo_is_old, undo_is_there, lost_row_is_read, answered_twice};
+ghost use Rattle.good_run.specs.Examples.{held_scan, old_rows_are_read, three_crashes, rolled_row_is_read};
+ghost use Rattle.good_run.specs.Examples.{transfers, half_is_read, acked_too_early};
 
 /// Examples of journals in which each line has its turn, and of ones in which one hasn't.
 pub fn lines_have_their_turns()
@@ -77,8 +79,12 @@ pub fn refusals_have_causes()
     ensures undo_is_there { refusals_are_good little_undo undo_is_there ≡ false }
 {}
 
-/// Examples of journals in which rows, or the lines that are answered, are wrong.
-pub fn rows_and_answers_are_told_once()
+/// Examples of journals in which rows are wrong, a line is answered twice, or a commit is answered too early.
+pub fn wrong_rows_and_answers_are_refused()
     ensures lost_row_is_read { GoodRows (asked crash_at_mark) lost_row_is_read → ⊥ }
+    ensures old_rows_are_read { GoodRows (asked held_scan) old_rows_are_read → ⊥ }
+    ensures rolled_row_is_read { GoodRows (asked three_crashes) rolled_row_is_read → ⊥ }
+    ensures half_is_read { GoodRows (asked transfers) half_is_read → ⊥ }
+    ensures acked_too_early { GoodJournal acked_too_early → ⊥ }
     ensures answered_twice { GoodLines crash_before_get answered_twice → ⊥ }
 {}

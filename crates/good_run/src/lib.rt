@@ -7,7 +7,7 @@ mod whole;
 
 pub use examples::{
     all_lines_are_answered, controls_are_asked, holds_are_kept, lines_have_their_turns,
-    refusals_have_causes, rows_and_answers_are_told_once,
+    refusals_have_causes, wrong_rows_and_answers_are_refused,
 };
 pub use laws::{
     only_a_crash_or_a_start_moves_a_wave, only_a_new_number_moves_a_wave,
