@@ -3,7 +3,7 @@
 #![tactic(auto)]
 
 mod notes;
-mod program;
+mod over_disk;
 
 pub use notes::note_line;
-pub use program::program;
+pub use over_disk::program;
