@@ -1,0 +1,5 @@
+pub mod Places
+pub mod Walks
+pub mod Kept
+pub mod Owned
+pub mod Turning
