@@ -3,3 +3,4 @@ pub mod Walks
 pub mod Kept
 pub mod Owned
 pub mod Turning
+pub mod Crosses
