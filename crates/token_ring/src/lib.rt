@@ -3,6 +3,8 @@
 
 mod machine;
 mod ring;
+#[cfg(test)]
+mod tests;
 
 pub use machine::Ring;
 pub use ring::{Counter, Step, Token};
