@@ -3,9 +3,9 @@ use Rattle.std.proofs.Common.{◌≡◌, ℕ, ◌+◌, ◌-◌, ◌<◌, ◌≤�
 use Rattle.std.specs.List.{flat_map, AllByRecursion}
 use Rattle.std.proofs.lemmas.Bool.{cases_lt}
 use Rattle.std.proofs.lemmas.List.{append-nil, drop_all, length-append, length-replicate, take-append-le, take_all}
-use Rattle.rac_nums.specs.declared.blocks.ItlSlot.{ItlSlot}
-use Rattle.rac_nums.specs.Bytes.{Puts}
-use Rattle.rac_nums.proofs.BytesLemmas.{Puts-append}
+use Rattle.redo_types.specs.declared.blocks.ItlSlot.{ItlSlot}
+use Rattle.base_types.specs.Bytes.{Puts}
+use Rattle.base_types.proofs.BytesLemmas.{Puts-append}
 use Rattle.part_image.specs.declared.front.BlockFront.{BlockFront}
 use Rattle.part_image.specs.declared.front.BlockKind.TheVariants.{Data}
 use Rattle.part_image.specs.Cells.{Begins, Cell, IsFirstWrong, Reads, StandsAt, Zeros, first_fields, spelled}

@@ -1,8 +1,8 @@
 -- Data blocks, and their 512 bytes.
 use Rattle.std.specs.Prelude.{◌≡◌, ℕ, ◌-◌, ◌≤◌, ◌⊎◌, List, [], ◌∷◌, ◌++◌, length, slice_index_or}
 use Rattle.std.specs.List.{flat_map, AllByRecursion}
-use Rattle.rac_nums.specs.declared.blocks.ItlSlot.{ItlSlot}
-use Rattle.rac_nums.specs.declared.value.Value.TheVariants.{Absent}
+use Rattle.redo_types.specs.declared.blocks.ItlSlot.{ItlSlot}
+use Rattle.base_types.specs.declared.value.Value.TheVariants.{Absent}
 use Rattle.part_image.specs.declared.front.BlockFront.{BlockFront}
 use Rattle.part_image.specs.declared.front.BlockKind.TheVariants.{Data}
 use Rattle.part_image.specs.Cells.{AllFit, Byte, Cell, Number, Zeros, first_fields, spelled}

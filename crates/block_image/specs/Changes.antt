@@ -1,11 +1,11 @@
 -- What redo and undo do to a data block.
 use Rattle.std.specs.Prelude.{ℕ, ◌+◌, ◌-◌, ◌==◌, Bool, true, false, List, map, replicate, slice_set}
 use Rattle.std.specs.Bool.{if◌then◌else◌}
-use Rattle.rac_nums.specs.declared.blocks.ItlSlot.{ItlSlot}
-use Rattle.rac_nums.specs.declared.blocks.RowChange.{RowChange}
-use Rattle.rac_nums.specs.declared.names.BlockNo.{BlockNo}
-use Rattle.rac_nums.specs.declared.names.Scn.{Scn}
-use Rattle.rac_nums.specs.declared.value.Value.{Value}
+use Rattle.redo_types.specs.declared.blocks.ItlSlot.{ItlSlot}
+use Rattle.redo_types.specs.declared.blocks.RowChange.{RowChange}
+use Rattle.base_types.specs.declared.names.BlockNo.{BlockNo}
+use Rattle.base_types.specs.declared.names.Scn.{Scn}
+use Rattle.base_types.specs.declared.value.Value.{Value}
 use Rattle.part_image.specs.Slots.{unused_itl}
 use Rattle.block_image.specs.declared.row.Row.{Row}
 use Rattle.block_image.specs.Block.{BlockContent, clear_row, row_at, slot_at}
@@ -13,7 +13,7 @@ use Rattle.block_image.specs.Block.{BlockContent, clear_row, row_at, slot_at}
 -- the block with this number that no record touched: its ITL slots are unused, and its rows absent and not locked
 abbrev pub empty_block : BlockNo → BlockContent
 empty_block number = record {
-  front = record { number = number; seg = record { 0 = 0 }; version = 0; scn = record { 0 = 0 }; next = 0 };
+  front = record { number = number; seg = 0; version = 0; scn = 0; next = 0 };
   itl = replicate 4 unused_itl;
   rows = replicate 8 clear_row;
 }

@@ -1,7 +1,7 @@
 -- What the parts of a data block are read and written as.
 use Rattle.std.specs.Prelude.{◌≡◌, List, length}
 use Rattle.std.specs.List.{flat_map, AllByRecursion}
-use Rattle.rac_nums.specs.declared.blocks.ItlSlot.{ItlSlot}
+use Rattle.redo_types.specs.declared.blocks.ItlSlot.{ItlSlot}
 use Rattle.part_image.specs.Cells.{Cell}
 use Rattle.part_image.specs.Slots.{IsItl, itl_cells}
 use Rattle.block_image.specs.declared.row.Row.{Row}

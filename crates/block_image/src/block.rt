@@ -6,8 +6,9 @@ ghost use Rattle.block_image.specs.Changes.{applied, empty_block, restored, take
 
 use crate::itl::{put_slots, read_slots};
 use crate::row::{Row, put_rows, read_rows, unlock};
+use base_types::{BlockNo, InstNo, Scn, Value, Xid};
 use part_image::{BlockFront, BlockKind, are_zeros, put_front, put_zeros, read_front};
-use rac_nums::{BadBlock, BlockNo, InstNo, ItlSlot, RowChange, Scn, Value, Xid};
+use redo_types::{BadBlock, ItlSlot, RowChange};
 use std::marker::Model;
 
 const UNUSED: ItlSlot = ItlSlot {
@@ -95,7 +96,7 @@ impl DataBlock {
         requires some_itl { 1 ≤ change.now.itl }
         requires itl { change.now.itl ≤ 4 }
         requires version { self.old.front.version < 2 ^ 64 - 1 }
-        requires scn { 1 ≤ scn.0 }
+        requires scn { 1 ≤ scn }
         requires block { IsBlock (applied self.old change.now scn) }
         ensures { self.new ≡ applied self.old change.now scn }
     {
@@ -119,9 +120,10 @@ impl DataBlock {
         requires value { IsValue value }
         ensures { self.new ≡ restored self.old itl slot row value }
     {
+        let is_unused = slot.xid.wrap == 0;
         self.itl[usize::from(itl) - 1] = slot;
         self.rows[usize::from(row)].value = value;
-        unlock(&mut self.rows, slot.xid.wrap == 0, itl);
+        unlock(&mut self.rows, is_unused, itl);
     }
 
     /// The number of the block.
@@ -175,9 +177,11 @@ impl DataBlock {
         ensures equal { result ≡ self.now }
         ensures block { IsBlock self.now }
     {
+        let front = &self.front;
+        let [first, second, third, fourth] = &self.itl;
         DataBlock {
-            front: self.front,
-            itl: self.itl,
+            front: *front,
+            itl: [*first, *second, *third, *fourth],
             rows: self.rows,
         }
     }

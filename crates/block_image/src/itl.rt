@@ -1,10 +1,10 @@
 ghost use Rattle.std.specs.Prelude.{◌≤◌, ◌+◌, ◌*◌, drop, length};
-ghost use Rattle.rac_nums.specs.Bytes.{Puts};
+ghost use Rattle.base_types.specs.Bytes.{Puts};
 ghost use Rattle.part_image.specs.Cells.{Reads, spelled};
 ghost use Rattle.block_image.specs.Parts.{AreSlots, slots_cells};
 
 use part_image::{put_itl, read_itl};
-use rac_nums::ItlSlot;
+use redo_types::ItlSlot;
 
 /// The four ITL slots in the bytes 32 to 95 of a block; `None` where they are none.
 pub(crate) fn read_slots(bytes: &[u8]) -> Option<[ItlSlot; 4]>

@@ -8,5 +8,5 @@ mod row;
 mod tests;
 
 pub use block::{DataBlock, a_change_is_taken_back};
-pub use rac_nums::{BadBlock, ItlSlot, RowChange};
+pub use redo_types::{BadBlock, ItlSlot, RowChange};
 pub use row::Row;

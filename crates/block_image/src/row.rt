@@ -1,12 +1,13 @@
 ghost use Rattle.std.specs.Prelude.{◌≡◌, ◌≤◌, ◌+◌, ◌*◌, ◌↔◌, true, drop, length, map};
-ghost use Rattle.rac_nums.specs.Bytes.{Puts};
+ghost use Rattle.base_types.specs.Bytes.{Puts};
 ghost use Rattle.part_image.specs.Cells.{Reads, spelled};
 ghost use Rattle.block_image.specs.Block.{NamesSlot, row_cells};
 ghost use Rattle.block_image.specs.Changes.{let_go, unlocked};
 ghost use Rattle.block_image.specs.Parts.{AreRows, IsRowOf, rows_cells};
 
+use base_types::{Value, get_u64, put_u64};
 use part_image::{are_zeros, bits_of, flag_of, put_u8, put_zeros, value_of};
-use rac_nums::{ItlSlot, Value, get_u64, put_u64};
+use redo_types::ItlSlot;
 
 /// A row of a data block.
 #[derive(Clone, Copy, Debug, PartialEq, Eq)]

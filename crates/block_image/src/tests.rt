@@ -1,5 +1,5 @@
 use super::*;
-use rac_nums::{BlockNo, InstNo, Scn, Value, Xid};
+use base_types::{BlockNo, InstNo, Scn, Value, Xid};
 use std::process::Abort;
 
 // The first 224 bytes of a block; the others are zero.

@@ -1,1 +1,4 @@
+pub mod LogFiles
+pub mod LogLemmas
+pub mod OpeningLemmas
 mod Room

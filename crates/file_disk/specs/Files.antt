@@ -1,13 +1,22 @@
--- A disk over files, as contracts see it.
-use Rattle.std.specs.Prelude.{ℕ, List, Bool, false, slice_index_or}
+-- What was done to the files of a disk.
+use Rattle.std.specs.Prelude.{ℕ, List, [], ◌∷◌, ◌++◌, map, slice_index_or, Option, None, Some}
 
--- which files of a disk could be opened, and how often a call has failed
-pub record FilesState : Type 0 where
-  pub blocks : Bool
-  pub control : Bool
-  pub logs : List Bool
-  pub faults : ℕ
+-- a call that changed a file: these bytes were written from a place on, the file was cut to so many bytes, or all that
+-- it holds was synced
+pub data FileCall : Type 0 where
+  Written : (at : ℕ) (bytes : List ℕ) → FileCall
+  Cut : (len : ℕ) → FileCall
+  Synced : FileCall
 
--- a thread's log could be opened
-abbrev pub has_log : FilesState → ℕ → Bool
-has_log it thread = slice_index_or it.logs thread false
+-- the calls of a file and one more, where it tells them
+abbrev pub added : FileCall → Option (List FileCall) → Option (List FileCall)
+added call None = None
+added call (Some calls) = Some (calls ++ call ∷ [])
+
+-- the calls of a file, one more, and a sync behind it
+abbrev pub synced : FileCall → Option (List FileCall) → Option (List FileCall)
+synced call calls = added Synced (added call calls)
+
+-- what the file of a thread's log tells
+abbrev pub of_log : {F A : Type 0} → (F → Option A) → List F → ℕ → Option A
+of_log tells files thread = slice_index_or (map tells files) thread None

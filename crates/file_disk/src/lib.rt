@@ -3,7 +3,10 @@
 
 mod disk_file;
 mod file_disk;
-#[cfg(test)]
-mod tests;
+mod opening;
+mod os_file;
+mod through;
 
+pub use disk_file::DiskFile;
 pub use file_disk::FileDisk;
+pub use os_file::OsFile;

@@ -1,14 +1,14 @@
 -- What the history of logs and their torn ends print as.
 use Rattle.std.specs.Prelude.{ℕ, List, ◌++◌, codes, decimal, flat_map}
-use Rattle.rac_nums.specs.declared.names.InstNo.{InstNo}
-use Rattle.rac_nums.specs.Texts.{xid_text}
-use Rattle.log_table.specs.declared.line.HistoryLine.{HistoryLine}
+use Rattle.base_types.specs.declared.names.InstNo.{InstNo}
+use Rattle.base_types.specs.Texts.{xid_text}
+use Rattle.log_history.specs.declared.line.HistoryLine.{HistoryLine}
 use Rattle.run_report.specs.Texts.{◌⧺◌, rows_text}
 
 -- A committed transaction prints with its SCN, its thread, its name and what its changes put into rows.
 abbrev pub commit_text : HistoryLine → List ℕ
 commit_text line =
-    codes "commit " ⧺ decimal line.c.0 ⧺ codes " " ⧺ decimal line.inst.0 ⧺ codes " " ⧺ xid_text line.xid ⧺ codes " " ⧺ rows_text line.changes
+    codes "commit " ⧺ decimal line.commit_scn ⧺ codes " " ⧺ decimal line.inst ⧺ codes " " ⧺ xid_text line.xid ⧺ codes " " ⧺ rows_text line.changes
 
 -- The line that tells a committed transaction.
 abbrev pub history_line_text : HistoryLine → List ℕ
@@ -16,7 +16,7 @@ history_line_text line = commit_text line ⧺ codes "\n"
 
 -- A torn end prints with its thread and its place.
 abbrev pub end_text : InstNo × ℕ → List ℕ
-end_text (thread, place) = codes "torn " ⧺ decimal thread.0 ⧺ codes " " ⧺ decimal place
+end_text (thread, place) = codes "torn " ⧺ decimal thread ⧺ codes " " ⧺ decimal place
 
 -- The line that tells a torn end.
 abbrev pub torn_text : InstNo × ℕ → List ℕ

@@ -5,7 +5,7 @@ ghost use Rattle.log_audit.specs.Audits.{IsBadIn, Tells};
 use crate::error::AuditError;
 use crate::reading::read_logs;
 use crate::text::text_of;
-use log_table::history_of;
+use log_history::history_of;
 use rac_disk::SharedDisk;
 use std::alloc::Global;
 
@@ -18,11 +18,11 @@ use std::alloc::Global;
 /// that isn't whole records and then nothing or a record cut short, and [`AuditError::NoMemory`] where memory
 /// ran out.
 pub fn audit<D: SharedDisk>(alloc: Global, disk: &mut D) -> Result<Vec<u8>, AuditError>
-    ensures told { IfOk result (λ text. IfSome (D.state disk.old) (λ it. Tells it text.items)) }
-    ensures bad { IfErr result (λ error. IfSome (D.state disk.old) (λ it. IsBadIn it error)) }
-    ensures kept { IfSome (D.state disk.old) (λ it. D.state disk.new ≡ Some it) }
-    ensures faults { Counts (IsErrOf result AuditError.Failed) (D.faults disk.old) (D.faults disk.new) }
-    ensures full { D.full disk.new ≡ D.full disk.old }
+    ensures told { IfOk result (λ text. IfSome (D.state disk.old).told (λ it. Tells it text.items)) }
+    ensures bad { IfErr result (λ error. IfSome (D.state disk.old).told (λ it. IsBadIn it error)) }
+    ensures kept { IfSome (D.state disk.old).told (λ it. (D.state disk.new).told ≡ Some it) }
+    ensures faults { Counts (IsErrOf result AuditError.Failed) (D.state disk.old).faults (D.state disk.new).faults }
+    ensures full { (D.state disk.new).full ≡ (D.state disk.old).full }
 {
     let logs = read_logs(alloc, disk)?;
     let (lines, torn) = history_of(alloc, logs.as_slice())?;

@@ -1,8 +1,8 @@
 ghost use Rattle.std.specs.Prelude.{◌≡◌};
 
-use log_table::LogError;
+use base_types::{InstNo, NoMemory};
+use log_history::LogError;
 use rac_disk::Failed;
-use rac_nums::{InstNo, NoMemory};
 use std::alloc::{AllocError, AllocFailed};
 use thiserror::Error;
 

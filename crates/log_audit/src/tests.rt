@@ -1,6 +1,6 @@
 use super::*;
+use base_types::InstNo;
 use rac_disk::{CallKind, MemDisk, Planned, SharedDisk};
-use rac_nums::InstNo;
 use std::alloc::Global;
 use std::test::Fail;
 

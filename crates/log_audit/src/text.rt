@@ -1,8 +1,8 @@
 ghost use Rattle.std.specs.Prelude.{◌≡◌, ◌++◌, IfOk, OnOk, Some, flat_map, string_bytes};
 ghost use Rattle.log_audit.specs.Texts.{audit_text, commit_text, end_text, history_line_text, torn_text};
 
-use log_table::HistoryLine;
-use rac_nums::{InstNo, NoMemory};
+use base_types::{InstNo, NoMemory};
+use log_history::HistoryLine;
 use run_report::RowsText;
 use std::alloc::Global;
 use std::fmt;
@@ -52,7 +52,7 @@ impl fmt::Display for CommitText<'_> {
 
     fn fmt<W: fmt::Write>(&self, f: &mut fmt::Formatter<W>) -> fmt::Result {
         let line = self.0;
-        let c = line.c.0;
+        let c = line.commit_scn.0;
         let inst = line.inst.0;
         let xid = line.xid;
         let changes = RowsText(&line.changes);

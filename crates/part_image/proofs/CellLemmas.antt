@@ -2,7 +2,7 @@
 use Rattle.std.proofs.Common.{◌≡◌, ℕ, zero, suc, ◌+◌, ◌^◌, ◌<◌, ◌≤◌, List, [], ◌∷◌, ◌++◌, length, take, drop, replicate, slice_index, refl, sym, ap, subst, ◌∙◌, arith, add-zero, get_or-take}
 use Rattle.std.proofs.lemmas.List.{append_assoc, drop-drop, drop-take, drop_at, get_or-drop, length-append, length-replicate, take_at, take-take, take-append-drop, drop_more}
 use Rattle.byteorder.specs.Numbers.{length-bytes_high_first, big_number-reads_back}
-use Rattle.rac_nums.specs.Bytes.{big_bytes, big_number, number_at}
+use Rattle.base_types.specs.Bytes.{big_bytes, big_number, number_at}
 use Rattle.part_image.specs.Cells.{Cell, Byte, Number, Zeros, cell_bytes, spelled, CellFits, AllFit, StandsAt, first_fields}
 use Rattle.part_image.proofs.Numbers.{IsBytes, IsBytes-drop, big_from-below, bytes_of_number}
 

@@ -1,6 +1,6 @@
 -- Which field of a front is the first wrong one.
 use Rattle.std.proofs.Common.{◌≡◌, ℕ, zero, suc, ◌^◌, ◌<◌, ◌≤◌, ◌↔◌, List, length, drop, slice_index, refl, sym, ap, subst, arith}
-use Rattle.rac_nums.specs.Bytes.{number_at}
+use Rattle.base_types.specs.Bytes.{number_at}
 use Rattle.part_image.specs.declared.front.BlockFront.{BlockFront}
 use Rattle.part_image.specs.declared.front.BlockKind.{BlockKind}
 use Rattle.part_image.specs.declared.front.BlockKind.TheVariants.{Data, Header, Undo}
@@ -37,7 +37,7 @@ has_zero_segment Undo = tt
 
 -- the front of a block that was never touched
 abbrev pub fresh : BlockKind → ℕ → ℕ → BlockFront
-fresh kind number seg = record { number = record { 0 = number }; seg = record { 0 = seg }; version = 0; scn = record { 0 = 0 }; next = some_next kind }
+fresh kind number seg = record { number = number; seg = seg; version = 0; scn = 0; next = some_next kind }
 
 fresh_is : (kind : BlockKind) (number seg : ℕ) → number < 256 ^ 2 → seg < 256 → HasSegment kind seg → IsFront kind (fresh kind number seg)
 fresh_is kind number seg small small_seg has = record {
@@ -88,7 +88,7 @@ pub wrong_scn : (kind : BlockKind) (bytes : List ℕ) → IsBytes bytes → 32 �
     → HasSegmentIn kind bytes → (((number_at 8 bytes 8 ≡ 0) ↔ (number_at 8 bytes 16 ≡ 0)) → ⊥) → IsFirstWrong (IsFront kind) (front_fields kind) bytes 6
 wrong_scn kind bytes fits long first second seg differs =
     let version = number_at 8 bytes 8 in
-    let f : BlockFront = record { number = record { 0 = number_at 2 bytes 2 }; seg = record { 0 = slice_index bytes 4 }; version = version; scn = record { 0 = some_scn version }; next = some_next kind } in
+    let f : BlockFront = record { number = number_at 2 bytes 2; seg = slice_index bytes 4; version = version; scn = some_scn version; next = some_next kind } in
     let is : IsFront kind f = record {
       fits = (kind_fits kind, (omega arith, (big_from-below 0 2 (drop 2 bytes) (IsBytes-drop 2 bytes fits), (fits 4, (tt, (big_from-below 0 8 (drop 8 bytes) (IsBytes-drop 8 bytes fits), (some_scn_fits version, (some_next_fits kind, tt))))))));
       segment = seg.1;
@@ -106,7 +106,7 @@ pub wrong_next : (kind : BlockKind) (bytes : List ℕ) → IsBytes bytes → 32 
     → HasSegmentIn kind bytes → ((number_at 8 bytes 8 ≡ 0) ↔ (number_at 8 bytes 16 ≡ 0)) → (HasNext kind (number_at 8 bytes 24) → ⊥)
     → IsFirstWrong (IsFront kind) (front_fields kind) bytes 7
 wrong_next kind bytes fits long first second seg goes differs =
-    let f : BlockFront = record { number = record { 0 = number_at 2 bytes 2 }; seg = record { 0 = slice_index bytes 4 }; version = number_at 8 bytes 8; scn = record { 0 = number_at 8 bytes 16 }; next = some_next kind } in
+    let f : BlockFront = record { number = number_at 2 bytes 2; seg = slice_index bytes 4; version = number_at 8 bytes 8; scn = number_at 8 bytes 16; next = some_next kind } in
     let is : IsFront kind f = record {
       fits = (kind_fits kind, (omega arith, (big_from-below 0 2 (drop 2 bytes) (IsBytes-drop 2 bytes fits), (fits 4, (tt, (big_from-below 0 8 (drop 8 bytes) (IsBytes-drop 8 bytes fits), (big_from-below 0 8 (drop 16 bytes) (IsBytes-drop 16 bytes fits), (some_next_fits kind, tt))))))));
       segment = seg.1;
@@ -121,10 +121,10 @@ wrong_next kind bytes fits long first second seg goes differs =
     }
 
 -- what was read is a front whose bytes stand there
-pub front_read : (kind : BlockKind) (bytes : List ℕ) (f : BlockFront) → f ≡ record { number = record { 0 = number_at 2 bytes 2 }; seg = record { 0 = slice_index bytes 4 }; version = number_at 8 bytes 8; scn = record { 0 = number_at 8 bytes 16 }; next = number_at 8 bytes 24 }
+pub front_read : (kind : BlockKind) (bytes : List ℕ) (f : BlockFront) → f ≡ record { number = number_at 2 bytes 2; seg = slice_index bytes 4; version = number_at 8 bytes 8; scn = number_at 8 bytes 16; next = number_at 8 bytes 24 }
     → IsBytes bytes → 32 ≤ length bytes → slice_index bytes 0 ≡ kind_number kind → slice_index bytes 1 ≡ 1
     → HasSegmentIn kind bytes → HasScn f → HasNext kind f.next → IsFront kind f × Begins bytes (spelled (first_fields 7 (front_fields kind f)))
 front_read kind bytes f is fits long first second seg scn next =
     let all : AllStand bytes 0 (first_fields 7 (front_fields kind f)) =
-    (first, (second, (ap (λ (x : BlockFront). x.number.0) (sym is), (ap (λ (x : BlockFront). x.seg.0) (sym is), (seg.0, (ap (λ (x : BlockFront). x.version) (sym is), (ap (λ (x : BlockFront). x.scn.0) (sym is), (ap (λ (x : BlockFront). x.next) (sym is), tt)))))))) in
-    (record { fits = fit_where_all_stand bytes 0 (first_fields 7 (front_fields kind f)) fits all; segment = subst (HasSegment kind) (ap (λ (x : BlockFront). x.seg.0) (sym is)) seg.1; scn = scn; next = next }, spelled_where_all_stand bytes 0 (first_fields 7 (front_fields kind f)) fits long all)
+    (first, (second, (ap (λ (x : BlockFront). x.number) (sym is), (ap (λ (x : BlockFront). x.seg) (sym is), (seg.0, (ap (λ (x : BlockFront). x.version) (sym is), (ap (λ (x : BlockFront). x.scn) (sym is), (ap (λ (x : BlockFront). x.next) (sym is), tt)))))))) in
+    (record { fits = fit_where_all_stand bytes 0 (first_fields 7 (front_fields kind f)) fits all; segment = subst (HasSegment kind) (ap (λ (x : BlockFront). x.seg) (sym is)) seg.1; scn = scn; next = next }, spelled_where_all_stand bytes 0 (first_fields 7 (front_fields kind f)) fits long all)

@@ -5,7 +5,7 @@ use Rattle.std.proofs.lemmas.Nat.{div-mul-add}
 use Rattle.std.proofs.lemmas.List.{append-nil, length-drop, get_or-drop, length-take-le}
 use Rattle.byteorder.specs.Numbers.{big_from-cons, big_from-take, length-bytes_high_first, big_number-reads_back}
 use Rattle.byteorder.specs.Endian.{big_from}
-use Rattle.rac_nums.specs.Bytes.{big_bytes, big_number, number_at}
+use Rattle.base_types.specs.Bytes.{big_bytes, big_number, number_at}
 
 -- a list of numbers below 256
 abbrev pub IsBytes : List ℕ → Type 0

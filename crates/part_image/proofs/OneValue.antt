@@ -2,11 +2,11 @@
 use Rattle.std.proofs.Common.{◌≡◌, ℕ, ◌≤◌, List, drop, length, ℤ, refl, sym, ap, ◌∙◌}
 use Rattle.std.proofs.lemmas.Int.{to_z-of_z}
 use Rattle.std.specs.Int.{w64, cast_signed}
-use Rattle.rac_nums.specs.declared.blocks.ItlSlot.{ItlSlot}
-use Rattle.rac_nums.specs.declared.undo.TxnSlot.{TxnSlot}
-use Rattle.rac_nums.specs.declared.undo.UndoRecord.{UndoRecord}
-use Rattle.rac_nums.specs.declared.value.Value.{Value}
-use Rattle.rac_nums.specs.declared.value.Value.TheVariants.{Absent, Num}
+use Rattle.redo_types.specs.declared.blocks.ItlSlot.{ItlSlot}
+use Rattle.redo_types.specs.declared.undo.TxnSlot.{TxnSlot}
+use Rattle.redo_types.specs.declared.undo.UndoRecord.{UndoRecord}
+use Rattle.base_types.specs.declared.value.Value.{Value}
+use Rattle.base_types.specs.declared.value.Value.TheVariants.{Absent, Num}
 use Rattle.part_image.specs.declared.front.BlockFront.{BlockFront}
 use Rattle.part_image.specs.declared.front.BlockKind.{BlockKind}
 use Rattle.part_image.specs.Cells.{Begins}

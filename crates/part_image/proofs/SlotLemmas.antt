@@ -1,7 +1,7 @@
 -- What is read of ITL slots.
 use Rattle.std.proofs.Common.{◌≡◌, ℕ, ◌≤◌, ◌⊎◌, List, [], ◌∷◌, length, take, drop, refl, sym, ap}
-use Rattle.rac_nums.specs.declared.blocks.ItlSlot.{ItlSlot}
-use Rattle.rac_nums.specs.Bytes.{number_at, xid_at}
+use Rattle.redo_types.specs.declared.blocks.ItlSlot.{ItlSlot}
+use Rattle.base_types.specs.Bytes.{number_at, xid_at}
 use Rattle.part_image.specs.Cells.{Begins}
 use Rattle.part_image.specs.Slots.{IsItl, IsUsedItl, itl_bytes, itl_cells, unused_itl}
 use Rattle.part_image.proofs.Numbers.{IsBytes}
@@ -14,7 +14,7 @@ itl_at bytes = record { xid = xid_at bytes 0; seq = number_at 8 bytes 8 }
 -- What was read is an ITL slot whose bytes stand there.
 pub itl_read : (bytes : List ℕ) (s : ItlSlot) → s ≡ itl_at bytes → IsBytes bytes → 16 ≤ length bytes → take 2 (drop 2 bytes) ≡ 0 ∷ 0 ∷ [] → (s ≡ unused_itl) ⊎ IsUsedItl s → IsItl s × Begins bytes (itl_bytes s)
 itl_read bytes s is fits long zeros content =
-    let seg = ap (λ (x : ItlSlot). x.xid.seg.0) (sym is) in
+    let seg = ap (λ (x : ItlSlot). x.xid.seg) (sym is) in
     let slot = ap (λ (x : ItlSlot). x.xid.slot) (sym is) in
     let wrap = ap (λ (x : ItlSlot). x.xid.wrap) (sym is) in
     let seq = ap (λ (x : ItlSlot). x.seq) (sym is) in

@@ -1,9 +1,9 @@
 -- What numbers of states and facts tell.
 use Rattle.std.proofs.Common.{◌≡◌, ℕ, ◌≤◌, Bool, true, false, List, length, slice_index, refl, arith}
-use Rattle.rac_nums.specs.declared.undo.TxnState.{TxnState}
-use Rattle.rac_nums.specs.declared.undo.TxnState.TheVariants.{Never, Active, Committed, RolledBack}
-use Rattle.rac_nums.specs.declared.undo.UndoRecord.{UndoRecord}
-use Rattle.rac_nums.specs.Bytes.{number_at}
+use Rattle.redo_types.specs.declared.undo.TxnState.{TxnState}
+use Rattle.redo_types.specs.declared.undo.TxnState.TheVariants.{Never, Active, Committed, RolledBack}
+use Rattle.redo_types.specs.declared.undo.UndoRecord.{UndoRecord}
+use Rattle.base_types.specs.Bytes.{number_at}
 use Rattle.part_image.specs.Cells.{Begins, StandsAt}
 use Rattle.part_image.specs.Slots.{bit, bits_of, flag_of, itl_bytes, itl_cells}
 use Rattle.part_image.specs.Undo.{HasClearSpaces, HasRanges, IsUndoRecord, state_number, undo_record_bytes, undo_record_cells}
@@ -44,7 +44,7 @@ pub record Parts (bytes : List ℕ) (v : UndoRecord) : Type 0 where
   pub row : slice_index bytes 10 ≡ v.row
   pub mine : slice_index bytes 11 ≡ bit v.mine
   pub wrap : number_at 4 bytes 12 ≡ v.wrap
-  pub block : number_at 2 bytes 16 ≡ v.block.0
+  pub block : number_at 2 bytes 16 ≡ v.block
   pub version : number_at 8 bytes 24 ≡ v.version
   pub prev : number_at 8 bytes 32 ≡ v.prev
   pub old_itl : StandsAt bytes 40 (itl_bytes v.old_itl)

@@ -1,7 +1,7 @@
 -- Formats as rows of cells.
 use Rattle.std.specs.Prelude.{◌≡◌, ℕ, ◌^◌, ◌<◌, ◌-◌, List, [], ◌∷◌, length, take, drop, replicate, Option, Some, None}
 use Rattle.std.specs.List.{flat_map, AllByRecursion}
-use Rattle.rac_nums.specs.Bytes.{big_bytes}
+use Rattle.base_types.specs.Bytes.{big_bytes}
 
 -- A cell of a format: one byte, a number of so many bytes with the highest first, or so many zeros.
 pub data Cell : Type 0 where

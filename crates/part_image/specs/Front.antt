@@ -17,10 +17,10 @@ abbrev pub front_fields : BlockKind → BlockFront → List (List Cell)
 front_fields kind f =
     (Byte (kind_number kind) ∷ [])
     ∷ (Byte 1 ∷ [])
-    ∷ (Number 2 f.number.0 ∷ [])
-    ∷ (Byte f.seg.0 ∷ Zeros 3 ∷ [])
+    ∷ (Number 2 f.number ∷ [])
+    ∷ (Byte f.seg ∷ Zeros 3 ∷ [])
     ∷ (Number 8 f.version ∷ [])
-    ∷ (Number 8 f.scn.0 ∷ [])
+    ∷ (Number 8 f.scn ∷ [])
     ∷ (Number 8 f.next ∷ [])
     ∷ []
 
@@ -40,7 +40,7 @@ HasSegmentIn kind bytes = (take 3 (drop 5 bytes) ≡ replicate 3 0) × HasSegmen
 
 -- an SCN is 0 exactly where no record touched the block
 abbrev pub HasScn : BlockFront → Type 0
-HasScn f = (f.version ≡ 0) ↔ (f.scn.0 ≡ 0)
+HasScn f = (f.version ≡ 0) ↔ (f.scn ≡ 0)
 
 -- a header has the next sequence number of its segment, 1 or more, and other blocks have none
 abbrev pub HasNext : BlockKind → ℕ → Type 0
@@ -51,6 +51,6 @@ HasNext Undo next = next ≡ 0
 -- The front of a block of a kind.
 pub record IsFront (kind : BlockKind) (f : BlockFront) : Type 0 where
   pub fits : AllFit (first_fields 7 (front_fields kind f))
-  pub segment : HasSegment kind f.seg.0
+  pub segment : HasSegment kind f.seg
   pub scn : HasScn f
   pub next : HasNext kind f.next

@@ -1,19 +1,19 @@
 -- ITL slots and what rows hold, as bytes.
 use Rattle.std.specs.Prelude.{◌≡◌, ℕ, ◌<◌, ◌≤◌, ◌⊎◌, Bool, true, false, List, [], ◌∷◌, FitsSigned, Option, None, Some}
 use Rattle.std.specs.Int.{w64, cast_unsigned}
-use Rattle.rac_nums.specs.declared.blocks.ItlSlot.{ItlSlot}
-use Rattle.rac_nums.specs.declared.names.Xid.{Xid}
-use Rattle.rac_nums.specs.declared.value.Value.{Value}
-use Rattle.rac_nums.specs.declared.value.Value.TheVariants.{Absent, Num}
+use Rattle.redo_types.specs.declared.blocks.ItlSlot.{ItlSlot}
+use Rattle.base_types.specs.declared.names.Xid.{Xid}
+use Rattle.base_types.specs.declared.value.Value.{Value}
+use Rattle.base_types.specs.declared.value.Value.TheVariants.{Absent, Num}
 use Rattle.part_image.specs.Cells.{Cell, Byte, Number, Zeros, spelled, AllFit}
 
 -- The name of a transaction has 8 bytes.
 abbrev pub xid_cells : Xid → List Cell
-xid_cells x = Byte x.seg.0 ∷ Byte x.slot ∷ Zeros 2 ∷ Number 4 x.wrap ∷ []
+xid_cells x = Byte x.seg ∷ Byte x.slot ∷ Zeros 2 ∷ Number 4 x.wrap ∷ []
 
 -- An ITL slot has 16 bytes: its transaction, and the sequence number of that one's newest undo record.
 abbrev pub itl_cells : ItlSlot → List Cell
-itl_cells s = Byte s.xid.seg.0 ∷ Byte s.xid.slot ∷ Zeros 2 ∷ Number 4 s.xid.wrap ∷ Number 8 s.seq ∷ []
+itl_cells s = Byte s.xid.seg ∷ Byte s.xid.slot ∷ Zeros 2 ∷ Number 4 s.xid.wrap ∷ Number 8 s.seq ∷ []
 
 -- the bytes of an ITL slot
 abbrev pub itl_bytes : ItlSlot → List ℕ
@@ -21,11 +21,11 @@ itl_bytes s = spelled (itl_cells s)
 
 -- the ITL slot that no transaction ever had
 abbrev pub unused_itl : ItlSlot
-unused_itl = record { xid = record { seg = record { 0 = 0 }; slot = 0; wrap = 0 }; seq = 0 }
+unused_itl = record { xid = record { seg = 0; slot = 0; wrap = 0 }; seq = 0 }
 
 -- a transaction of one of the eight segments has, or had, the ITL slot
 pub record IsUsedItl (s : ItlSlot) : Type 0 where
-  pub segment : s.xid.seg.0 < 8
+  pub segment : s.xid.seg < 8
   pub slot : s.xid.slot < 8
   pub wrap : 1 ≤ s.xid.wrap
   pub seq : 1 ≤ s.seq

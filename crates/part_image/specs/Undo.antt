@@ -1,9 +1,9 @@
 -- Slots of the transaction table and undo records, as bytes.
 use Rattle.std.specs.Prelude.{◌≡◌, ℕ, ◌<◌, ◌≤◌, ◌⊎◌, ◌↔◌, List, [], ◌∷◌, ◌++◌, drop, replicate, take, Option, None, Some}
-use Rattle.rac_nums.specs.declared.undo.TxnSlot.{TxnSlot}
-use Rattle.rac_nums.specs.declared.undo.TxnState.{TxnState}
-use Rattle.rac_nums.specs.declared.undo.TxnState.TheVariants.{Never, Active, Committed, RolledBack}
-use Rattle.rac_nums.specs.declared.undo.UndoRecord.{UndoRecord}
+use Rattle.redo_types.specs.declared.undo.TxnSlot.{TxnSlot}
+use Rattle.redo_types.specs.declared.undo.TxnState.{TxnState}
+use Rattle.redo_types.specs.declared.undo.TxnState.TheVariants.{Never, Active, Committed, RolledBack}
+use Rattle.redo_types.specs.declared.undo.UndoRecord.{UndoRecord}
 use Rattle.part_image.specs.Cells.{Cell, Byte, Number, Zeros, spelled, AllFit}
 use Rattle.part_image.specs.Slots.{IsItl, IsValue, bit, bits_of, flag_of, itl_cells}
 
@@ -16,7 +16,7 @@ state_number RolledBack = 3
 
 -- A slot of the transaction table has 40 bytes.
 abbrev pub txn_slot_cells : TxnSlot → List Cell
-txn_slot_cells s = Number 4 s.wrap ∷ Byte (state_number s.state) ∷ Zeros 3 ∷ Number 8 s.first ∷ Number 8 s.last ∷ Number 8 s.scn.0 ∷ Number 8 s.prev.0 ∷ []
+txn_slot_cells s = Number 4 s.wrap ∷ Byte (state_number s.state) ∷ Zeros 3 ∷ Number 8 s.first ∷ Number 8 s.last ∷ Number 8 s.scn ∷ Number 8 s.prev ∷ []
 
 -- the bytes of a slot of the transaction table
 abbrev pub txn_slot_bytes : TxnSlot → List ℕ
@@ -25,14 +25,14 @@ txn_slot_bytes s = spelled (txn_slot_cells s)
 -- What a slot has in each state. A slot never used has nothing. An active transaction has a first undo record, and a
 -- last one that isn't before it, or none. One that has ended has the SCN of its end.
 abbrev pub HasState : TxnState → TxnSlot → Type 0
-HasState Never s = (s.wrap ≡ 0) × (s.first ≡ 0) × (s.last ≡ 0) × (s.scn.0 ≡ 0)
-HasState Active s = (1 ≤ s.wrap) × (1 ≤ s.first) × ((s.last ≡ 0) ⊎ (s.first ≤ s.last)) × (s.scn.0 ≡ 0)
-HasState Committed s = (1 ≤ s.wrap) × (s.first ≡ 0) × (s.last ≡ 0) × (1 ≤ s.scn.0)
-HasState RolledBack s = (1 ≤ s.wrap) × (s.first ≡ 0) × (s.last ≡ 0) × (1 ≤ s.scn.0)
+HasState Never s = (s.wrap ≡ 0) × (s.first ≡ 0) × (s.last ≡ 0) × (s.scn ≡ 0)
+HasState Active s = (1 ≤ s.wrap) × (1 ≤ s.first) × ((s.last ≡ 0) ⊎ (s.first ≤ s.last)) × (s.scn ≡ 0)
+HasState Committed s = (1 ≤ s.wrap) × (s.first ≡ 0) × (s.last ≡ 0) × (1 ≤ s.scn)
+HasState RolledBack s = (1 ≤ s.wrap) × (s.first ≡ 0) × (s.last ≡ 0) × (1 ≤ s.scn)
 
 -- A slot names no end before its transaction exactly where there was none: it was taken once or never.
 abbrev pub NamesEndBefore : TxnSlot → Type 0
-NamesEndBefore s = (s.wrap ≤ 1) ↔ (s.prev.0 ≡ 0)
+NamesEndBefore s = (s.wrap ≤ 1) ↔ (s.prev ≡ 0)
 
 -- A slot of the transaction table is as its state says, and names the end before its transaction.
 pub record IsTxnSlot (s : TxnSlot) : Type 0 where
@@ -48,7 +48,7 @@ IsReadState number None = (state : TxnState) → number ≡ state_number state �
 -- An undo record has 96 bytes.
 abbrev pub undo_record_cells : UndoRecord → List Cell
 undo_record_cells u =
-    Number 8 u.seq ∷ Byte u.slot ∷ Byte u.itl ∷ Byte u.row ∷ Byte (bit u.mine) ∷ Number 4 u.wrap ∷ Number 2 u.block.0 ∷ Zeros 6
+    Number 8 u.seq ∷ Byte u.slot ∷ Byte u.itl ∷ Byte u.row ∷ Byte (bit u.mine) ∷ Number 4 u.wrap ∷ Number 2 u.block ∷ Zeros 6
     ∷ Number 8 u.version ∷ Number 8 u.prev
     ∷ itl_cells u.old_itl ++ Byte (flag_of u.old) ∷ Zeros 7 ∷ Number 8 (bits_of u.old) ∷ Zeros 24 ∷ []
 

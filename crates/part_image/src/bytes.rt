@@ -1,5 +1,5 @@
 ghost use Rattle.std.specs.Prelude.{◌≡◌, ◌≤◌, ◌+◌, ◌↔◌, true, [], ◌∷◌, drop, length, replicate, take};
-ghost use Rattle.rac_nums.specs.Bytes.{Puts};
+ghost use Rattle.base_types.specs.Bytes.{Puts};
 
 /// Whether so many bytes from a place on are zero.
 pub fn are_zeros(bytes: &[u8], at: usize, count: usize) -> bool

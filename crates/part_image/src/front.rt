@@ -1,10 +1,11 @@
 ghost use Rattle.std.specs.Prelude.{◌≡◌, ◌≤◌, ◌+◌, ◌↔◌, true, length, IfErr, IfOk};
-ghost use Rattle.rac_nums.specs.Bytes.{Puts};
+ghost use Rattle.base_types.specs.Bytes.{Puts};
 ghost use Rattle.part_image.specs.Cells.{Begins, IsFirstWrong};
 ghost use Rattle.part_image.specs.Front.{HasNext, HasScn, HasSegmentIn, IsFront, front_bytes, front_fields, kind_number};
 
 use crate::bytes::{are_zeros, put_u8, put_zeros};
-use rac_nums::{BadBlock, BlockNo, InstNo, Scn, get_u16, get_u64, put_u16, put_u64};
+use base_types::{BlockNo, InstNo, Scn, get_u16, get_u64, put_u16, put_u64};
+use redo_types::BadBlock;
 
 /// The kinds of block.
 #[derive(Clone, Copy, Debug, PartialEq, Eq)]
@@ -69,11 +70,11 @@ pub fn put_front(out: &mut [u8], kind: BlockKind, front: &BlockFront)
 {
     put_u8(out, 0, number_of(kind));
     put_u8(out, 1, 1);
-    put_u16(out, 2, front.number.0);
-    put_u8(out, 4, front.seg.0);
+    put_u16(out, 2, front.number.get());
+    put_u8(out, 4, front.seg.get());
     put_zeros(out, 5, 3);
     put_u64(out, 8, front.version);
-    put_u64(out, 16, front.scn.0);
+    put_u64(out, 16, front.scn.get());
     put_u64(out, 24, front.next);
 }
 
@@ -102,7 +103,7 @@ fn has_segment(kind: BlockKind, bytes: &[u8]) -> bool
 fn has_scn(front: &BlockFront) -> bool
     ensures { (result ≡ true) ↔ HasScn front.now }
 {
-    (front.version == 0) == (front.scn.0 == 0)
+    (front.version == 0) == (front.scn.get() == 0)
 }
 
 // Whether a block of the kind may have the next sequence number.

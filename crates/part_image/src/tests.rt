@@ -1,5 +1,6 @@
 use super::*;
-use rac_nums::{BlockNo, InstNo, ItlSlot, Scn, TxnSlot, TxnState, UndoRecord, Value, Xid};
+use base_types::{BlockNo, InstNo, Scn, Value, Xid};
+use redo_types::{ItlSlot, TxnSlot, TxnState, UndoRecord};
 
 const VALUES: [(Value, u8, u64); 6] = [
     (Value::Absent, 0, 0),
@@ -64,10 +65,10 @@ const ENDED: TxnSlot = TxnSlot {
 #[test]
 fn what_is_put_is_read(rt: HostRuntime) {
     let mut bytes = [0xff; 200];
-    for slot in [UNUSED, USED] {
-        put_itl(&mut bytes, 3, slot);
-        assert_eq!(rt; read_itl(&bytes, 3), Some(slot));
-    }
+    put_itl(&mut bytes, 3, UNUSED);
+    assert_eq!(rt; read_itl(&bytes, 3), Some(UNUSED));
+    put_itl(&mut bytes, 3, USED);
+    assert_eq!(rt; read_itl(&bytes, 3), Some(USED));
     let used = [7, 3, 0, 0, 1, 2, 3, 4, 0, 0, 0, 0, 0, 0, 5, 6];
     assert!(rt; &bytes[3..19] == used.as_slice());
     put_txn_slot(&mut bytes, 5, ENDED);

@@ -1,10 +1,11 @@
 ghost use Rattle.std.specs.Prelude.{◌≡◌, ◌≤◌, ◌+◌, ◌↔◌, true, drop, length};
-ghost use Rattle.rac_nums.specs.Bytes.{Puts};
+ghost use Rattle.base_types.specs.Bytes.{Puts};
 ghost use Rattle.part_image.specs.Cells.{Reads};
 ghost use Rattle.part_image.specs.Undo.{HasState, IsReadState, IsTxnSlot, NamesEndBefore, state_number, txn_slot_bytes, txn_slot_cells};
 
 use crate::bytes::{are_zeros, put_u8, put_zeros};
-use rac_nums::{Scn, TxnSlot, TxnState, get_u32, get_u64, put_u32, put_u64};
+use base_types::{Scn, get_u32, get_u64, put_u32, put_u64};
+use redo_types::{TxnSlot, TxnState};
 
 /// The slot of a transaction table in the 40 bytes from a place on; `None` where they are none.
 pub fn read_txn_slot(bytes: &[u8], at: usize) -> Option<TxnSlot>
@@ -29,7 +30,7 @@ fn first_txn_slot(bytes: &[u8]) -> Option<TxnSlot>
         scn: Scn(get_u64(bytes, 24)),
         prev: Scn(get_u64(bytes, 32)),
     };
-    if are_zeros(bytes, 5, 3) && has_state(slot) && names_end_before(slot) {
+    if are_zeros(bytes, 5, 3) && has_state(&slot) && names_end_before(&slot) {
         Some(slot)
     } else {
         None
@@ -46,35 +47,35 @@ pub fn put_txn_slot(out: &mut [u8], at: usize, slot: TxnSlot)
     put_zeros(out, at + 5, 3);
     put_u64(out, at + 8, slot.first);
     put_u64(out, at + 16, slot.last);
-    put_u64(out, at + 24, slot.scn.0);
-    put_u64(out, at + 32, slot.prev.0);
+    put_u64(out, at + 24, slot.scn.get());
+    put_u64(out, at + 32, slot.prev.get());
 }
 
 // Whether a slot has what its state asks.
-fn has_state(slot: TxnSlot) -> bool
-    ensures { (result ≡ true) ↔ HasState slot.state slot }
+fn has_state(slot: &TxnSlot) -> bool
+    ensures { (result ≡ true) ↔ HasState slot.now.state slot.now }
 {
     match slot.state {
         TxnState::Never => {
-            slot.wrap == 0 && slot.first == 0 && slot.last == 0 && slot.scn.0 == 0
+            slot.wrap == 0 && slot.first == 0 && slot.last == 0 && slot.scn.get() == 0
         }
         TxnState::Active => {
             slot.wrap >= 1
                 && slot.first >= 1
                 && (slot.last == 0 || slot.first <= slot.last)
-                && slot.scn.0 == 0
+                && slot.scn.get() == 0
         }
         TxnState::Committed | TxnState::RolledBack => {
-            slot.wrap >= 1 && slot.first == 0 && slot.last == 0 && slot.scn.0 >= 1
+            slot.wrap >= 1 && slot.first == 0 && slot.last == 0 && slot.scn.get() >= 1
         }
     }
 }
 
 // Whether a slot names the end of a transaction before exactly where there was one.
-fn names_end_before(slot: TxnSlot) -> bool
-    ensures { (result ≡ true) ↔ NamesEndBefore slot }
+fn names_end_before(slot: &TxnSlot) -> bool
+    ensures { (result ≡ true) ↔ NamesEndBefore slot.now }
 {
-    (slot.wrap <= 1) == (slot.prev.0 == 0)
+    (slot.wrap <= 1) == (slot.prev.get() == 0)
 }
 
 fn state_of(number: u8) -> Option<TxnState>

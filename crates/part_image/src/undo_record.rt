@@ -1,5 +1,5 @@
 ghost use Rattle.std.specs.Prelude.{◌≡◌, ◌≤◌, ◌<◌, ◌+◌, ◌↔◌, true, drop, length};
-ghost use Rattle.rac_nums.specs.Bytes.{Puts};
+ghost use Rattle.base_types.specs.Bytes.{Puts};
 ghost use Rattle.part_image.specs.Cells.{Reads, spelled};
 ghost use Rattle.part_image.specs.Undo.{IsUndoPlace, IsUndoRecord, HasRanges, HasClearSpaces, undo_place_cells, undo_record_bytes, undo_record_cells};
 
@@ -7,7 +7,8 @@ use crate::bit::{bit_of, fact_of};
 use crate::bytes::{are_zeros, put_u8, put_zeros};
 use crate::itl::{put_itl, read_itl};
 use crate::value::{bits_of, flag_of, value_of};
-use rac_nums::{BlockNo, UndoRecord, get_u16, get_u32, get_u64, put_u16, put_u32, put_u64};
+use base_types::{BlockNo, get_u16, get_u32, get_u64, put_u16, put_u32, put_u64};
+use redo_types::UndoRecord;
 
 /// The undo record in the 96 bytes from a place on; `None` where they are none.
 pub fn read_undo_record(bytes: &[u8], at: usize) -> Option<UndoRecord>
@@ -76,7 +77,7 @@ pub fn put_undo_record(out: &mut [u8], at: usize, undo: &UndoRecord)
     put_u8(out, at + 10, undo.row);
     put_u8(out, at + 11, bit_of(undo.mine));
     put_u32(out, at + 12, undo.wrap);
-    put_u16(out, at + 16, undo.block.0);
+    put_u16(out, at + 16, undo.block.get());
     put_zeros(out, at + 18, 6);
     put_u64(out, at + 24, undo.version);
     put_u64(out, at + 32, undo.prev);

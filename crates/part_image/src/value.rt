@@ -1,7 +1,7 @@
 ghost use Rattle.std.specs.Prelude.{◌≡◌};
 ghost use Rattle.part_image.specs.Slots.{IsReadValue, IsValue, bits_of, flag_of};
 
-use rac_nums::Value;
+use base_types::Value;
 
 /// What a row with this flag and this number holds; `None` where it is no row's.
 pub fn value_of(flag: u8, bits: u64) -> Option<Value>

@@ -1,8 +1,7 @@
 -- A line that a fault cut short leaves a good journal, which the log tells.
-use Rattle.std.proofs.Common.{◌≡◌, ◌∙◌, ℕ, inl, inr, List, map, reverse, true, Option, Some, None, is_some, sym, ap}
+use Rattle.std.proofs.Common.{◌≡◌, ℕ, inl, inr, List, true, Option, Some, None, is_some}
 use Rattle.std.specs.Prelude.{IsSomeAnd}
-use Rattle.rac_disk.specs.Disk.{DiskState}
-use Rattle.row_model.specs.History.{Commit}
+use Rattle.rac_disk.specs.Content.{Content}
 use Rattle.script_text.specs.declared.item.Item.{Item}
 use Rattle.script_text.specs.declared.item.Item.TheVariants.{Session, CrashAfter, CrashMark, Start, Remaster, Checkpoint, Hold}
 use Rattle.script_text.specs.declared.item.Item.TheVariants.{Stmt as Statement}
@@ -12,10 +11,8 @@ use Rattle.script_text.specs.ScriptParts.{ScriptParts}
 use Rattle.plain_node.specs.declared.node.Node.{Node}
 use Rattle.plain_node.specs.Engine.{IsCutCommit, IsCutLine, LogsTell}
 use Rattle.plain_node.specs.Lined.{IsNext, IsRight, last_line}
-use Rattle.plain_node.specs.Logged.{line_of_commit}
 use Rattle.plain_node.specs.Lost.{IsLostSoFar, lost}
 use Rattle.plain_node.specs.Runs.{IsPlain}
-use Rattle.plain_node.proofs.LogSteps.{history-lost}
 use Rattle.plain_node.proofs.LostLemmas.{lost-entered, lost-marked, lost-started}
 
 module _ (parts : ScriptParts) (done : List (ℕ × Item)) (old : Node) (n : ℕ) (home : is_some old.home ≡ true) (right : IsRight parts done old) where
@@ -49,7 +46,7 @@ lost-line parts done old now n (Checkpoint inst) plain right next cut = absurd c
 lost-line parts done old now n (Hold reader until) plain right next cut = absurd cut
 
 -- the end of the instance doesn't change what the log tells
-pub tells-lost : (disk : Option DiskState) (node : Node) (n : ℕ) → IsSomeAnd disk (λ it. LogsTell it node.journal) → IsSomeAnd disk (λ it. LogsTell it (lost node n).journal)
+pub tells-lost : (disk : Option Content) (node : Node) (n : ℕ) → IsSomeAnd disk (λ it. LogsTell it node.journal) → IsSomeAnd disk (λ it. LogsTell it (lost node n).journal)
 tells-lost None node n told = absurd told
 tells-lost (Some it) node n told = record {
   records = told.records;
@@ -57,5 +54,5 @@ tells-lost (Some it) node n told = record {
   each = told.each;
   holds = told.holds;
   ends = told.ends;
-  tells = told.tells ∙ ap (λ (commits : List Commit). map line_of_commit (reverse commits)) (sym (history-lost node n));
+  tells = told.tells;
 }

@@ -4,18 +4,19 @@ use Rattle.std.specs.Prelude.{IsSome, IsSomeAnd}
 use Rattle.std.specs.List.{AllByRecursion}
 use Rattle.std.proofs.lemmas.List.{get_or-set_same, get_or-set_other, length-append, length-take-le, take-append-drop}
 use Rattle.std.proofs.lemmas.List.Concat.{flat_map-append}
-use Rattle.rac_nums.specs.declared.redo.Redo.{Redo}
-use Rattle.rac_disk.specs.Calls.{WhereTold}
-use Rattle.rac_disk.specs.Disk.{DiskState, IsDisk, LogState, log_at, no_log, room_at, with_log}
+use Rattle.redo_types.specs.declared.redo.Redo.{Redo}
+use Rattle.rac_disk.specs.State.{WhereTold}
+use Rattle.rac_disk.specs.Content.{Content, IsDisk, LogState, log_at, no_log, room_at, with_log}
 use Rattle.redo_record.specs.Redo.{IsRedo, redo_bytes}
 use Rattle.redo_record.specs.Front.{IsTorn, ReadsBack, AreWhole, log_bytes}
 use Rattle.redo_record.proofs.CutLemmas.{cut_reads_back}
 use Rattle.redo_thread.specs.Thread.{ThreadState, appended, forced}
 use Rattle.plain_node.specs.declared.engine.Engine.{Engine}
 use Rattle.plain_node.specs.declared.node.Node.{Node}
-use Rattle.row_model.specs.declared.entry.Entry.{Entry}
-use Rattle.row_model.specs.History.{Commit, history}
-use Rattle.log_table.specs.LogHistory.{log_history}
+use Rattle.journal.specs.declared.entry.Entry.{Entry}
+use Rattle.journal.specs.History.{history}
+use Rattle.journal.specs.declared.deeds.Commit.{Commit}
+use Rattle.log_history.specs.LogHistory.{log_history}
 use Rattle.plain_node.specs.Engine.{HoldsLog, IsKept, IsWritten, LogsTell, MadeRoom, MaySave, of_first}
 use Rattle.plain_node.specs.Runs.{IsProper}
 use Rattle.plain_node.specs.Logged.{Logged, line_of_commit}
@@ -25,15 +26,15 @@ use Rattle.plain_node.proofs.LogLists.{All-append, All-first, All-second}
 use Rattle.plain_node.proofs.LogSteps.{Logged-flushed}
 
 -- a log that was given is there
-log_at-same : (it : DiskState) (bytes : List ℕ) → IsDisk it → log_at (with_log it 0 bytes) 0 ≡ bytes
+log_at-same : (it : Content) (bytes : List ℕ) → IsDisk it → log_at (with_log it 0 bytes) 0 ≡ bytes
 log_at-same it bytes is = ap (λ (log : LogState). log.bytes) (get_or-set_same it.logs 0 (record { bytes = bytes; room = room_at it 0 }) no_log (let eight = is.logs in omega arith))
 
 -- and the other logs are as they were
-log_at-other : (it : DiskState) (bytes : List ℕ) (thread : ℕ) → 0 < thread → log_at (with_log it 0 bytes) thread ≡ log_at it thread
+log_at-other : (it : Content) (bytes : List ℕ) (thread : ℕ) → 0 < thread → log_at (with_log it 0 bytes) thread ≡ log_at it thread
 log_at-other it bytes thread other = ap (λ (log : LogState). log.bytes) (get_or-set_other it.logs 0 thread (record { bytes = bytes; room = room_at it 0 }) no_log (λ same. absurd (omega arith)))
 
 -- what one more piece in the first log leaves
-pub HoldsLog-more : (it new : DiskState) (bytes more : List ℕ) → IsDisk it → new ≡ with_log it 0 (log_at it 0 ++ more) → HoldsLog it bytes → HoldsLog new (bytes ++ more)
+pub HoldsLog-more : (it new : Content) (bytes more : List ℕ) → IsDisk it → new ≡ with_log it 0 (log_at it 0 ++ more) → HoldsLog it bytes → HoldsLog new (bytes ++ more)
 HoldsLog-more it new bytes more is made holds = rw made (
     record {
       first = log_at-same it (log_at it 0 ++ more) is ∙ ap (λ (front : List ℕ). front ++ more) holds.first;
@@ -48,7 +49,7 @@ pub log_bytes-push : (xs : List Redo) (r : Redo) → log_bytes (xs ++ r ∷ []) 
 log_bytes-push xs r = flat_map-append redo_bytes xs (r ∷ []) ∙ ap (λ (more : List ℕ). log_bytes xs ++ more) (append-nil (redo_bytes r))
 
 -- a forced thread has all its records on the disk
-pub written-forced : (disk disk_now : Option DiskState) (thread : ThreadState) (durable waits : List Redo) → IsWritten disk thread durable waits
+pub written-forced : (disk disk_now : Option Content) (thread : ThreadState) (durable waits : List Redo) → IsWritten disk thread durable waits
     → WhereTold disk disk_now (λ it new. new ≡ with_log it thread.number (log_at it thread.number ++ thread.waiting)) → IsWritten disk_now (forced thread) (durable ++ waits) []
 written-forced None disk_now thread durable waits is told = absurd is.told
 written-forced (Some it) None thread durable waits is told = absurd told
@@ -60,13 +61,13 @@ written-forced (Some it) (Some new) thread durable waits is told = record {
 }
 
 -- Room was made: the records are as many as before, and fewer of them wait.
-pub record RoomFor (disk : Option DiskState) (thread : ThreadState) (durable waits : List Redo) : Type 0 where
+pub record RoomFor (disk : Option Content) (thread : ThreadState) (durable waits : List Redo) : Type 0 where
   pub on_disk : List Redo
   pub in_buffer : List Redo
   pub written : IsWritten disk thread on_disk in_buffer
   pub moved : (front : List Redo) × (waits ≡ front ++ in_buffer) × (on_disk ≡ durable ++ front)
 
-pub room-for : (disk disk_now : Option DiskState) (thread thread_now : ThreadState) (durable waits : List Redo) → IsWritten disk thread durable waits
+pub room-for : (disk disk_now : Option Content) (thread thread_now : ThreadState) (durable waits : List Redo) → IsWritten disk thread durable waits
     → MadeRoom disk thread disk_now thread_now → RoomFor disk_now thread_now durable waits
 room-for disk disk_now thread thread_now durable waits is (inl same) = record {
   on_disk = durable;
@@ -82,13 +83,13 @@ room-for disk disk_now thread thread_now durable waits is (inr forced_now) = rec
 }
 
 -- the invariant of records goes with them
-pub logged-room : (disk : Option DiskState) (thread : ThreadState) (durable waits : List Redo) (node : Node) (room : RoomFor disk thread durable waits)
-    → Logged durable waits (reverse node.journal) (parts_of node) → Logged room.on_disk room.in_buffer (reverse node.journal) (parts_of node)
+pub logged-room : (disk : Option Content) (thread : ThreadState) (durable waits : List Redo) (node : Node) (room : RoomFor disk thread durable waits)
+    → Logged durable waits node.journal (parts_of node) → Logged room.on_disk room.in_buffer node.journal (parts_of node)
 logged-room disk thread durable waits node room logged =
-    rw room.moved.2 (Logged-flushed durable room.moved.0 room.in_buffer (reverse node.journal) (parts_of node) (rw room.moved.1 at logged))
+    rw room.moved.2 (Logged-flushed durable room.moved.0 room.in_buffer node.journal (parts_of node) (rw room.moved.1 at logged))
 
 -- a record that was added waits
-pub written-appended : (disk : Option DiskState) (thread : ThreadState) (durable waits : List Redo) (r : Redo) → IsWritten disk thread durable waits → IsWritten disk (appended thread r) durable (waits ++ r ∷ [])
+pub written-appended : (disk : Option Content) (thread : ThreadState) (durable waits : List Redo) (r : Redo) → IsWritten disk thread durable waits → IsWritten disk (appended thread r) durable (waits ++ r ∷ [])
 written-appended disk thread durable waits r is = record {
   number = is.number;
   place = is.place;
@@ -114,7 +115,7 @@ split-back bytes (r ∷ records) back =
     }
 
 -- the log after a force that failed: some of the records that waited are whole
-pub record Saved (it : DiskState) (durable waits : List Redo) (count : ℕ) : Type 0 where
+pub record Saved (it : Content) (durable waits : List Redo) (count : ℕ) : Type 0 where
   pub whole : ℕ
   pub are_whole : AreWhole waits count whole
   pub rest : List ℕ
@@ -122,7 +123,7 @@ pub record Saved (it : DiskState) (durable waits : List Redo) (count : ℕ) : Ty
   pub holds : HoldsLog it (log_bytes (durable ++ take whole waits) ++ rest)
   pub size : length (log_at it 0) ≡ length (log_bytes durable) + count
 
-pub saved-by : (it new : DiskState) (durable waits : List Redo) (count : ℕ) → AllByRecursion IsRedo waits → IsDisk it → count ≤ length (log_bytes waits)
+pub saved-by : (it new : Content) (durable waits : List Redo) (count : ℕ) → AllByRecursion IsRedo waits → IsDisk it → count ≤ length (log_bytes waits)
     → new ≡ with_log it 0 (log_at it 0 ++ take count (log_bytes waits)) → HoldsLog it (log_bytes durable) → Saved new durable waits count
 saved-by it new durable waits count each is few made holds =
     let cut = cut_reads_back waits count each in
@@ -145,14 +146,14 @@ pub All-front : {X : Type 0} (P : X → Type 0) (n : ℕ) (xs : List X) → AllB
 All-front P n xs all = All-first P (take n xs) (drop n xs) (rw take-append-drop all)
 
 -- records on the disk whose history is the journal's tell it
-pub told-by : (it : DiskState) (durable more : List Redo) (rest : List ℕ) (journal : List Entry) → AllByRecursion IsRedo more → AllByRecursion IsRedo durable → (rest ≡ []) ⊎ IsTorn rest
+pub told-by : (it : Content) (durable more : List Redo) (rest : List ℕ) (journal : List Entry) → AllByRecursion IsRedo more → AllByRecursion IsRedo durable → (rest ≡ []) ⊎ IsTorn rest
     → HoldsLog it (log_bytes (durable ++ more) ++ rest) → log_history (of_first (durable ++ more)) ≡ map line_of_commit (reverse (history journal)) → LogsTell it journal
 told-by it durable more rest journal each_more each ends holds tells =
     record { records = durable ++ more; rest = rest; each = All-append IsRedo durable more each each_more; holds = holds; ends = ends; tells = tells }
 
 -- the log after a failed force tells the journal, where what waited ends nothing
-pub tells-saved : (disk disk_now : Option DiskState) (thread : ThreadState) (durable waits : List Redo) (node : Node) (journal : List Entry) → IsProper node
-    → Logged durable waits (reverse node.journal) (parts_of node) → IsWritten disk thread durable waits → MaySave disk disk_now thread
+pub tells-saved : (disk disk_now : Option Content) (thread : ThreadState) (durable waits : List Redo) (node : Node) (journal : List Entry) → IsProper node
+    → Logged durable waits node.journal (parts_of node) → IsWritten disk thread durable waits → MaySave disk disk_now thread
     → history journal ≡ history node.journal → IsSomeAnd disk_now (λ it. LogsTell it journal)
 tells-saved None disk_now thread durable waits node journal proper logged is saved same = absurd is.told
 tells-saved (Some it) None thread durable waits node journal proper logged is saved same = absurd saved
@@ -164,14 +165,14 @@ tells-saved (Some it) (Some new) thread durable waits node journal proper logged
     (logs-tell durable waits node left.whole proper logged ∙ ap (λ (commits : List Commit). map line_of_commit (reverse commits)) (sym same))
 
 -- what holds of the content after a call holds of a disk that told before it
-pub told-now : (disk disk_now : Option DiskState) (Did : DiskState → DiskState → Type 0) (P : DiskState → Type 0) → IsSome disk → WhereTold disk disk_now Did
-    → ((it new : DiskState) → Did it new → P new) → IsSomeAnd disk_now P
+pub told-now : (disk disk_now : Option Content) (Did : Content → Content → Type 0) (P : Content → Type 0) → IsSome disk → WhereTold disk disk_now Did
+    → ((it new : Content) → Did it new → P new) → IsSomeAnd disk_now P
 told-now None disk_now Did P some told holds = absurd (cc some)
 told-now (Some it) None Did P some told holds = absurd told
 told-now (Some it) (Some new) Did P some told holds = holds it new told.2
 
 -- An engine that made no record is kept over a disk whose logs are empty.
-pub kept-new : (disk : Option DiskState) (engine : Engine) → engine.thread ≡ record { number = 0; durable = 0; waiting = []; durable_scn = 0; newest_scn = 0 } → engine.node.journal ≡ [] → engine.node.own ≡ None
+pub kept-new : (disk : Option Content) (engine : Engine) → engine.thread ≡ record { number = 0; durable = 0; waiting = []; durable_scn = 0; newest_scn = 0 } → engine.node.journal ≡ [] → engine.node.own ≡ None
     → IsSomeAnd disk (λ it. HoldsLog it []) → IsKept disk engine
 kept-new disk engine thread journal own empty = (
   [],
@@ -181,7 +182,7 @@ kept-new disk engine thread journal own empty = (
 )
 
 -- The log of an engine that no fault ended tells its journal.
-pub kept-tells : (disk : Option DiskState) (engine : Engine) → IsProper engine.node → IsKept disk engine → IsSomeAnd disk (λ it. LogsTell it engine.node.journal)
+pub kept-tells : (disk : Option Content) (engine : Engine) → IsProper engine.node → IsKept disk engine → IsSomeAnd disk (λ it. LogsTell it engine.node.journal)
 kept-tells None engine proper kept = absurd kept.2.told
 kept-tells (Some it) engine proper kept =
     told-by it kept.0 [] [] engine.node.journal tt (All-first IsRedo kept.0 kept.1 kept.3.each) (inl refl) (rw (append-nil kept.0, append-nil (log_bytes kept.0)) kept.2.told)

@@ -2,11 +2,11 @@
 use Rattle.std.proofs.Common.{◌≡◌, ◌∙◌, ◌≢◌, ℕ, ◌+◌, ◌<◌, ◌≤◌, List, Option, Some, None, length, slice_set, slice_index_or, MatchOption, refl, ap, arith, inl, inr, ◌⊎◌, true, false, ◌==◌}
 use Rattle.std.proofs.lemmas.List.{get_or-set_same, get_or-set_other, length-set}
 use Rattle.std.proofs.lemmas.Bool.Decides.{eqb_tells}
-use Rattle.rac_nums.specs.declared.names.Xid.{Xid}
-use Rattle.rac_nums.specs.declared.names.InstNo.{InstNo}
-use Rattle.rac_nums.specs.declared.names.RowNo.{RowNo}
-use Rattle.rac_nums.specs.declared.names.Scn.{Scn}
-use Rattle.rac_nums.specs.declared.value.Value.{Value}
+use Rattle.base_types.specs.declared.names.Xid.{Xid}
+use Rattle.base_types.specs.declared.names.InstNo.{InstNo}
+use Rattle.base_types.specs.declared.names.RowNo.{RowNo}
+use Rattle.base_types.specs.declared.names.Scn.{Scn}
+use Rattle.base_types.specs.declared.value.Value.{Value}
 use Rattle.plain_node.specs.declared.node.Node.{Node}
 use Rattle.plain_node.specs.declared.slots.SlotUse.{SlotUse}
 use Rattle.plain_node.specs.Slots.{wrap_at, never, next_xid, IsLeastUsed}
@@ -60,7 +60,7 @@ Fits-changed last n z row found value node mid x (Some y) rise fits is h =
 
 pub Fits-put : (last n z : ℕ) (row : RowNo) (value : Value) (node now : Node) → last < n → Fits last node → Puts node n z row value now → Fits n now × (now.home ≡ node.home)
 Fits-put last n z row value node now rise fits puts =
-    rw puts.3 (Fits-changed last n z row (value_in node node.known.0 row.0) value node puts.1 puts.0 node.own rise fits refl puts.2)
+    rw puts.3 (Fits-changed last n z row (value_in node node.known row) value node puts.1 puts.0 node.own rise fits refl puts.2)
 
 pub Fits-committed : (last n z : ℕ) (node : Node) → last < n → Fits last node → Fits n (committed node n z) × ((committed node n z).home ≡ node.home)
 Fits-committed last n z node rise fits = by_own node.own refl
@@ -73,8 +73,8 @@ Fits-committed last n z node rise fits = by_own node.own refl
         let eight = fits.slots in (
           record {
             scn = (let h = fits.scn in omega arith);
-            slots = length-set node.slots x.slot (record { wrap = wrap_at node.slots x.slot; end = record { 0 = node.scn.0 + 1 } }) ∙ fits.slots;
-            wraps = λ k small. (let h = fits.wraps k small in let e = wrap_at-ended (λ _. None) 0 node.slots x.slot k (record { 0 = node.scn.0 + 1 }) (omega arith) in omega (arith, e));
+            slots = length-set node.slots x.slot (record { wrap = wrap_at node.slots x.slot; end = node.scn + 1 }) ∙ fits.slots;
+            wraps = λ k small. (let h = fits.wraps k small in let e = wrap_at-ended (λ _. None) 0 node.slots x.slot k (node.scn + 1) (omega arith) in omega (arith, e));
             own = tt;
           },
           refl,

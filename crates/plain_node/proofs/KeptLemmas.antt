@@ -4,19 +4,19 @@ use Rattle.std.specs.Prelude.{IsSomeAnd}
 use Rattle.std.specs.List.{AllByRecursion}
 use Rattle.std.proofs.lemmas.Bool.{cases_lt}
 use Rattle.std.proofs.lemmas.List.{length-append, length-take, take-append-drop, take_all}
-use Rattle.rac_nums.specs.declared.names.RowNo.{RowNo}
-use Rattle.rac_nums.specs.declared.names.Xid.{Xid}
-use Rattle.rac_nums.specs.declared.redo.Redo.{Redo}
-use Rattle.rac_nums.specs.declared.value.Value.{Value}
-use Rattle.rac_disk.specs.Disk.{DiskState, log_at}
+use Rattle.base_types.specs.declared.names.RowNo.{RowNo}
+use Rattle.base_types.specs.declared.names.Xid.{Xid}
+use Rattle.redo_types.specs.declared.redo.Redo.{Redo}
+use Rattle.base_types.specs.declared.value.Value.{Value}
+use Rattle.rac_disk.specs.Content.{Content, log_at}
 use Rattle.redo_record.specs.Redo.{IsRedo}
 use Rattle.redo_record.specs.Front.{AreWhole, log_bytes}
 use Rattle.redo_thread.specs.Thread.{ThreadState, appended, end_of}
 use Rattle.plain_redo.specs.Records.{change_record}
-use Rattle.log_table.specs.LogHistory.{log_history}
-use Rattle.row_model.specs.declared.entry.Entry.TheVariants.{Started}
-use Rattle.row_model.specs.Good.{Range}
-use Rattle.row_model.specs.History.{Commit, history, history_of_past}
+use Rattle.log_history.specs.LogHistory.{log_history}
+use Rattle.journal.specs.Good.{Range}
+use Rattle.journal.specs.History.{history}
+use Rattle.journal.specs.declared.deeds.Commit.{Commit}
 use Rattle.plain_node.specs.declared.engine.Engine.{Engine}
 use Rattle.plain_node.specs.declared.node.Node.{Node}
 use Rattle.plain_node.specs.Engine.{Ends, EndsCut, IsKept, IsWritten, LogsTell, MadeRoom, MaySave, next_commit, of_first}
@@ -27,14 +27,10 @@ use Rattle.plain_node.specs.Sound.{parts_of}
 use Rattle.plain_node.specs.Steps.{IsOwn, changed, started}
 use Rattle.plain_node.proofs.EngineLemmas.{All-front, Saved, log_bytes-append, logged-room, room-for, saved-by, tells-saved, told-by, written-appended, written-forced}
 use Rattle.plain_node.proofs.LogLists.{All-append, All-first, All-second}
-use Rattle.plain_node.proofs.LogSteps.{IsLogged-commit, IsLogged-put, fronts, history-lost, logs-tell-entered, logs-tell-lost-marked}
-use Rattle.plain_node.proofs.StepLemmas.{reverse_push}
+use Rattle.plain_node.proofs.LogSteps.{IsLogged-commit, IsLogged-put, fronts, logs-tell-entered}
+use Rattle.plain_node.proofs.LogLemmas.{logs-tell}
 
--- a start leaves the history
-pub history-started : (node : Node) (n z : ℕ) → history (started node n z).journal ≡ history node.journal
-history-started node n z = ap history_of_past (reverse_push node.journal (Started n z node.known))
-
-pub put-kept : (asked : ℕ → Option Range) (disk disk_then : Option DiskState) (old now : Engine) (n : ℕ) (x : Xid) (row : RowNo) (held found value : Value) (mid : Node) (thread_then : ThreadState) (r : Redo)
+pub put-kept : (asked : ℕ → Option Range) (disk disk_then : Option Content) (old now : Engine) (n : ℕ) (x : Xid) (row : RowNo) (held found value : Value) (mid : Node) (thread_then : ThreadState) (r : Redo)
     → MadeRoom disk old.thread disk_then thread_then → IsOwn (started old.node n 0) x mid → now.node ≡ changed mid n x row found value
     → r ≡ change_record x now.node.scn row held value → IsRedo r → now.thread ≡ appended thread_then r → IsSound asked old.node → IsProper old.node → IsKept disk old → IsKept disk_then now
 put-kept asked disk disk_then old now n x row held found value mid thread_then r made own node r_is is_redo thread sound proper kept =
@@ -47,12 +43,12 @@ put-kept asked disk disk_then old now n x row held found value mid thread_then r
       IsLogged-put asked room.on_disk room.in_buffer old.node mid now.node n x row held found value own node next sound proper logged,
     )
 
-pub started-tells : (disk disk_now : Option DiskState) (old : Engine) (now : Node) (n : ℕ) → now ≡ started old.node n 0 → MaySave disk disk_now old.thread → IsProper old.node → IsKept disk old
+pub started-tells : (disk disk_now : Option Content) (old : Engine) (now : Node) (n : ℕ) → now ≡ started old.node n 0 → MaySave disk disk_now old.thread → IsProper old.node → IsKept disk old
     → IsSomeAnd disk_now (λ it. LogsTell it now.journal)
 started-tells disk disk_now old now n is saved proper kept =
-    tells-saved disk disk_now old.thread kept.0 kept.1 old.node now.journal proper kept.3 kept.2 saved (ap (λ (node : Node). history node.journal) is ∙ history-started old.node n 0)
+    tells-saved disk disk_now old.thread kept.0 kept.1 old.node now.journal proper kept.3 kept.2 saved (ap (λ (node : Node). history node.journal) is)
 
-pub commit-kept : (asked : ℕ → Option Range) (disk disk_now : Option DiskState) (old now : Engine) (n : ℕ) (x : Xid) → old.node.own ≡ Some x → length old.node.slots ≡ 8
+pub commit-kept : (asked : ℕ → Option Range) (disk disk_now : Option Content) (old now : Engine) (n : ℕ) (x : Xid) → old.node.own ≡ Some x → length old.node.slots ≡ 8
     → Ends disk (record old { node = started old.node n 0 }) n x disk_now now → IsSound asked old.node → IsProper old.node → IsKept disk old → IsKept disk_now now
 commit-kept asked disk disk_now old now n x own eight ends sound proper kept =
     let r = next_commit (record old { node = started old.node n 0 }) x in
@@ -82,7 +78,7 @@ module _ (asked : ℕ → Option Range) (old now : Engine) (n : ℕ) (x : Xid) (
   after = record old { node = started old.node n 0 }
 
   -- the log after a force of a commit record that failed
-  cut-tells-by : (new : DiskState) (thread : ThreadState) (durable waits : List Redo) (count : ℕ) → Logged durable waits (reverse old.node.journal) (parts_of old.node) → IsRedo (next_commit (record old { node = started old.node n 0 }) x)
+  cut-tells-by : (new : Content) (thread : ThreadState) (durable waits : List Redo) (count : ℕ) → Logged durable waits old.node.journal (parts_of old.node) → IsRedo (next_commit (record old { node = started old.node n 0 }) x)
       → end_of thread ≡ length (log_bytes durable) + length (log_bytes (waits ++ next_commit (record old { node = started old.node n 0 }) x ∷ []))
       → (saved : Saved new durable (waits ++ next_commit (record old { node = started old.node n 0 }) x ∷ []) count)
       → (end_of thread ≤ length (log_at new 0) → now.node ≡ entered (marked (started old.node n 0) n x) x) → (length (log_at new 0) < end_of thread → now.node ≡ marked (started old.node n 0) n x)
@@ -112,8 +108,8 @@ module _ (asked : ℕ → Option Range) (old now : Engine) (n : ℕ) (x : Xid) (
           let short = part-shorter (waits ++ r ∷ []) count saved.whole saved.are_whole few in
           let marked_is = part (omega (arith, saved.size, end, short)) in
           told-by new durable (take saved.whole waits) saved.rest now.node.journal (All-front IsRedo saved.whole waits each_waits) each saved.ends (rw some at saved.holds)
-          (logs-tell-lost-marked asked durable waits old.node n saved.whole x proper logged
-          ∙ ap (λ (commits : List Commit). map line_of_commit (reverse commits)) (history-lost (marked (started old.node n 0) n x) n ∙ sym (ap (λ (node : Node). history node.journal) marked_is)))
+          (logs-tell durable waits old.node saved.whole proper logged
+          ∙ ap (λ (commits : List Commit). map line_of_commit (reverse commits)) (sym (ap (λ (node : Node). history node.journal) marked_is)))
       by_front (inr all) =
           let within : length (log_bytes (waits ++ r ∷ [])) ≤ count = rw all at saved.are_whole.within in
           let entered_is = whole (omega (arith, saved.size, end, within)) in
@@ -123,7 +119,7 @@ module _ (asked : ℕ → Option Range) (old now : Engine) (n : ℕ) (x : Xid) (
           ∙ ap (λ (commits : List Commit). map line_of_commit (reverse commits)) (sym (ap (λ (node : Node). history node.journal) entered_is)))
 
   -- what was saved of a commit that a fault cut short tells the journal
-  pub commit-tells : (disk disk_now : Option DiskState) (one : Type 0) → EndsCut disk (record old { node = started old.node n 0 }) n x disk_now now one → IsKept disk old → one → IsSomeAnd disk_now (λ it. LogsTell it now.node.journal)
+  pub commit-tells : (disk disk_now : Option Content) (one : Type 0) → EndsCut disk (record old { node = started old.node n 0 }) n x disk_now now one → IsKept disk old → one → IsSomeAnd disk_now (λ it. LogsTell it now.node.journal)
   commit-tells disk disk_now one (inl cut) kept asked_one = started-tells disk disk_now old now.node n cut.0 cut.1 proper kept
   commit-tells disk disk_now one (inr cut) kept asked_one =
       let room = room-for disk cut.room.disk_then old.thread cut.room.thread_then kept.0 kept.1 kept.2 cut.room.made in
@@ -131,8 +127,8 @@ module _ (asked : ℕ → Option Range) (old now : Engine) (n : ℕ) (x : Xid) (
       let full = written-appended cut.room.disk_then cut.room.thread_then room.on_disk room.in_buffer (next_commit (record old { node = started old.node n 0 }) x) room.written in
       by_disk cut.room.disk_then disk_now (appended cut.room.thread_then (next_commit (record old { node = started old.node n 0 }) x)) room.on_disk room.in_buffer full logged cut.is_redo cut.saved (cut.enters.whole asked_one) cut.enters.part
     where
-      by_disk : (disk disk_now : Option DiskState) (thread : ThreadState) (durable waits : List Redo) → IsWritten disk thread durable (waits ++ next_commit (record old { node = started old.node n 0 }) x ∷ [])
-          → Logged durable waits (reverse old.node.journal) (parts_of old.node) → IsRedo (next_commit (record old { node = started old.node n 0 }) x) → MaySave disk disk_now thread
+      by_disk : (disk disk_now : Option Content) (thread : ThreadState) (durable waits : List Redo) → IsWritten disk thread durable (waits ++ next_commit (record old { node = started old.node n 0 }) x ∷ [])
+          → Logged durable waits old.node.journal (parts_of old.node) → IsRedo (next_commit (record old { node = started old.node n 0 }) x) → MaySave disk disk_now thread
           → IsSomeAnd disk_now (λ it. end_of thread ≤ length (log_at it 0) → now.node ≡ entered (marked (started old.node n 0) n x) x)
           → IsSomeAnd disk_now (λ it. length (log_at it 0) < end_of thread → now.node ≡ marked (started old.node n 0) n x) → IsSomeAnd disk_now (λ it. LogsTell it now.node.journal)
       by_disk None disk_now thread durable waits is logged is_redo saved whole part = absurd is.told

@@ -2,7 +2,7 @@
 use Rattle.std.proofs.Common.{◌≡◌, ◌∙◌, ℕ, suc, ◌+◌, ◌<◌, List, [], ◌∷◌, ◌++◌, Some, drop, length, get_or, refl, ap, sym, arith, add-one, Bool, true, false, ◌==◌, cond, ◌||◌, ◌≤◌, ◌^◌, ◌*◌, nat_lt, subst, append-nil}
 use Rattle.std.proofs.Math.Seq.{drop-cons}
 use Rattle.std.proofs.lemmas.List.{append_assoc}
-use Rattle.std.proofs.lemmas.Bool.{eq-eqb, ne_eqb, le-ltb, lt-ltb}
+use Rattle.std.proofs.lemmas.Bool.{eq-eqb, eqb-true, ne_eqb, le-ltb, lt-ltb}
 use Rattle.script_text.specs.declared.item.Item.{Item}
 use Rattle.script_text.specs.declared.item.Item.TheVariants.{Session, CrashAfter, CrashMark, Start, Remaster, Checkpoint, Hold}
 use Rattle.script_text.specs.declared.item.Item.TheVariants.{Stmt as Statement}
@@ -10,12 +10,16 @@ use Rattle.script_text.specs.declared.item.Stmt.{Stmt}
 use Rattle.script_text.specs.declared.item.Stmt.TheVariants.{Get, Scan, Put, Add, Del, Lock, Commit, Rollback, Savepoint, RollbackTo}
 use Rattle.script_text.specs.ScriptParts.{ScriptParts}
 use Rattle.script_text.specs.Reading.{item_in, joined, items_of}
-use Rattle.script_text.specs.WellFormed.{HasRowsBelow, RiseWithin, IsItemWithin, AreItemsWithin, IsOpened, opened_after, AreOpened, IsRead, AreRead, IsWellFormed}
+use Rattle.script_text.specs.WellFormed.{HasRowsBelow, RiseWithin, IsItemWithin, IsOpened, opened_after, AreOpened, IsWellFormed}
+use Rattle.script_text.specs.OneSession.{is_for_one_session, is_simple}
+use Rattle.script_text.specs.declared.script.Settings.{Settings}
+use Rattle.journal.proofs.XidLemmas.{both_true}
+use Rattle.plain_node.proofs.LogLists.{All-second}
 use Rattle.plain_node.specs.Lined.{last_line, NamesBelow, Opens, AreNext}
 use Rattle.script_text.specs.Lines.{opening, opening_in, earlier, AreAnswered}
-use Rattle.row_model.specs.Past.{Past}
-use Rattle.std.specs.List.{list_any}
-use Rattle.rac_nums.specs.declared.names.InstNo.{InstNo}
+use Rattle.journal.specs.Past.{Past}
+use Rattle.std.specs.List.{AllByRecursion, list_all, list_any}
+use Rattle.base_types.specs.declared.names.InstNo.{InstNo}
 use Rattle.plain_node.specs.Runs.{RunsPlainly, IsPlain, opens}
 
 -- the item that stands first in what is left
@@ -106,16 +110,16 @@ earlier-done (wave ∷ waves) done line rest same past h =
     earlier-by (list_any (λ (w : ℕ × Item). w.0 == line.0) wave) wave waves done line rest past refl same h
     (λ after behind answered. earlier-done waves after line rest behind past answered)
 
-names-below : (sessions instances rows : ℕ) (item : Item) → IsItemWithin sessions instances rows item → NamesBelow sessions item
-names-below sessions instances rows (Session session inst) within = within.0
-names-below sessions instances rows (Statement session what) within = within.0
-names-below sessions instances rows _ within = tt
+names-below : (parts : ScriptParts) (item : Item) → length parts.names ≡ length parts.homes → IsItemWithin parts.settings parts.homes item → NamesBelow (length parts.names) item
+names-below parts (Session session inst) same within = rw same within.1
+names-below parts (Statement session what) same within = rw same within.0
+names-below parts _ same within = tt
 
 -- rows below fewer are below 512
 rows-below-512 : (rows : ℕ) (what : Stmt) → rows ≤ 512 → HasRowsBelow rows what → HasRowsBelow 512 what
 rows-below-512 rows (Get row) few below = omega arith
-rows-below-512 rows (Scan first last) few below = (let a = below.0 in omega arith, let b = below.1 in omega arith)
-rows-below-512 rows (Put row value) few below = omega arith
+rows-below-512 rows (Scan first last) few below = (below.0, let b = below.1 in omega arith)
+rows-below-512 rows (Put row value) few below = (let b = below.0 in omega arith, below.1)
 rows-below-512 rows (Add row by) few below = omega arith
 rows-below-512 rows (Del row) few below = omega arith
 rows-below-512 rows (Lock row) few below = omega arith
@@ -124,42 +128,42 @@ rows-below-512 rows Rollback few below = tt
 rows-below-512 rows (Savepoint name) few below = tt
 rows-below-512 rows (RollbackTo name) few below = tt
 
-module _ (most sessions instances rows : ℕ) (numbers : most < 2 ^ 32) (few : sessions ≤ 1) (one : instances ≤ 1) (rows_few : rows ≤ 512) where
-  plain-item : (opened : ℕ) (item : Item) → IsItemWithin sessions instances rows item → IsOpened opened item → IsRead item → IsPlain (nat_lt 0 opened) item
-  plain-item opened (Session session inst) within is read =
-      (let h = within.0 in omega arith, (let h = within.1 in omega arith), le-ltb 0 opened (let h = within.0 in omega arith))
-  plain-item opened (Statement session what) within is read =
-      (let h = within.0 in omega arith, lt-ltb 0 opened (omega arith), read, rows-below-512 rows what rows_few within.1)
-  plain-item opened (CrashAfter inst steps keep) within is read = read
-  plain-item opened (CrashMark inst keep) within is read = read
-  plain-item opened (Start inst) within is read = read
-  plain-item opened (Remaster bucket to) within is read = read
-  plain-item opened (Checkpoint inst) within is read = read
-  plain-item opened (Hold reader until) within is read = read
+module _ (most : ℕ) (settings : Settings) (homes : List ℕ) (numbers : most < 2 ^ 32) (few : settings.blocks ≤ 64) where
+  plain-item : (opened : ℕ) (item : Item) → IsItemWithin settings homes item → IsOpened opened item → is_for_one_session item ≡ true → IsPlain (nat_lt 0 opened) item
+  plain-item opened (Session session inst) within is simple =
+      let both = both_true (session == 0) (inst == 0) simple in
+      let zero_is = eqb-true session 0 both.0 in
+      (zero_is, eqb-true inst 0 both.1, le-ltb 0 opened (omega arith))
+  plain-item opened (Statement session what) within is simple =
+      let both = both_true (session == 0) (is_simple what) simple in
+      (eqb-true session 0 both.0, lt-ltb 0 opened (omega arith), both.1, rows-below-512 (8 * settings.blocks) what (omega arith) within.1)
+  plain-item opened (CrashAfter inst steps keep) within is simple = (cc)
+  plain-item opened (CrashMark inst keep) within is simple = (cc)
+  plain-item opened (Start inst) within is simple = (cc)
+  plain-item opened (Remaster bucket to) within is simple = (cc)
+  plain-item opened (Checkpoint inst) within is simple = (cc)
+  plain-item opened (Hold reader until) within is simple = (cc)
 
   opens-after : (opened : ℕ) (item : Item) → nat_lt 0 (opened_after opened item) ≡ opens (nat_lt 0 opened) item
   opens-after opened (Session session inst) = lt-ltb 0 (opened + 1) (omega arith)
   opens-after opened _ = refl
 
-  -- the lines of a well-formed script are lines that the node knows
-  pub plain-lines : (last opened : ℕ) (lines : List (ℕ × Item)) → RiseWithin last most lines → AreItemsWithin sessions instances rows lines
-      → AreOpened opened lines → AreRead lines → RunsPlainly last (nat_lt 0 opened) lines
-  plain-lines last opened [] rise within is read = tt
-  plain-lines last opened (line ∷ lines) rise within is read = (
-    rise.0,
-    (let h = rise.1 in omega arith),
-    plain-item opened line.1 within.0 is.0 read.0,
-    rw (← opens-after opened line.1) (plain-lines line.0 (opened_after opened line.1) lines rise.2 within.1 is.1 read.1),
-  )
+  -- the lines of a well-formed script for one session are lines that the node knows
+  pub plain-lines : (last opened : ℕ) (lines : List (ℕ × Item)) → RiseWithin last most lines → AllByRecursion (λ item. IsItemWithin settings homes item.1) lines
+      → AreOpened opened lines → list_all (λ line. is_for_one_session line.1) lines ≡ true → RunsPlainly last (nat_lt 0 opened) lines
+  plain-lines last opened [] rise within is simple = tt
+  plain-lines last opened (line ∷ lines) rise within is simple =
+      let both = both_true (is_for_one_session line.1) (list_all (λ (item : ℕ × Item). is_for_one_session item.1) lines) simple in (
+        rise.0,
+        (let h = rise.1 in omega arith),
+        plain-item opened line.1 within.0 is.0 both.0,
+        rw (← opens-after opened line.1) (plain-lines line.0 (opened_after opened line.1) lines rise.2 within.1 is.1 both.1),
+      )
 
-pub plain-script : (parts : ScriptParts) → IsWellFormed parts → RunsPlainly 0 false (items_of parts)
-plain-script parts well =
-    plain-lines parts.lines (length parts.names) parts.settings.instances (8 * parts.settings.blocks) (let h = well.lines_fit in omega arith) well.sessions_today well.instances_today (let h = well.blocks_fit in omega arith)
-    0 0 (items_of parts) well.lines_rise well.items_within well.items_opened well.items_read
-
-within-at : (sessions instances rows : ℕ) (done : List (ℕ × Item)) (line : ℕ × Item) (rest : List (ℕ × Item)) → AreItemsWithin sessions instances rows (done ++ line ∷ rest) → IsItemWithin sessions instances rows line.1
-within-at sessions instances rows [] line rest within = within.0
-within-at sessions instances rows (d ∷ done) line rest within = within-at sessions instances rows done line rest within.1
+pub plain-script : (parts : ScriptParts) → IsWellFormed parts → list_all (λ line. is_for_one_session line.1) (items_of parts) ≡ true → RunsPlainly 0 false (items_of parts)
+plain-script parts well simple =
+    plain-lines parts.lines parts.settings parts.homes (let h = well.lines_fit in omega arith) well.settings_fit.few_blocks
+    0 0 (items_of parts) well.lines_rise well.items_within well.items_opened simple
 
 opens-at : (parts : ScriptParts) (done : List (ℕ × Item)) (n : ℕ) (item : Item) (rest : List (ℕ × Item)) → items_of parts ≡ done ++ (n, item) ∷ rest → AreOpened 0 (done ++ (n, item) ∷ rest) → Opens parts n item
 opens-at parts done n (Session session inst) rest same is = rw same (opening-found 0 done n session inst rest is).1
@@ -178,8 +182,8 @@ all-next parts done (line ∷ rest) well same = (
   record {
     asks = rw same (item-found 0 parts.lines done line rest (rw same at well.lines_rise));
     opens = opens-at parts done line.0 line.1 rest same (rw same at well.items_opened);
-    names = names-below (length parts.names) parts.settings.instances (8 * parts.settings.blocks) line.1
-        (within-at (length parts.names) parts.settings.instances (8 * parts.settings.blocks) done line rest (rw same at well.items_within));
+    names = names-below parts line.1 well.sessions_are_named
+        (All-second (λ (item : ℕ × Item). IsItemWithin parts.settings parts.homes item.1) done (line ∷ rest) (rw same at well.items_within)).0;
     earlier_done = earlier-done parts.waves done line rest same;
     later = (rise-above 0 parts.lines done line rest (rw same at well.lines_rise)).1;
   },

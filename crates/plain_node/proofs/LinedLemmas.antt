@@ -1,19 +1,20 @@
 -- Each entry that the node tells is what its line asks.
 use Rattle.std.proofs.Common.{◌≡◌, ◌∙◌, ℕ, ◌<◌, ◌≤◌, List, [], ◌∷◌, ◌++◌, Bool, true, false, cond, ◌||◌, Option, Some, None, IsSome, IfSome, MatchOption, refl, ap, sym, subst, arith, is_some}
-use Rattle.std.specs.Option.{option_and_then, option_map}
+use Rattle.std.specs.Option.{option_and_then}
 use Rattle.std.proofs.lemmas.Bool.{eq-eqb}
-use Rattle.rac_nums.specs.declared.names.Xid.{Xid}
-use Rattle.rac_nums.specs.declared.names.RowNo.{RowNo}
-use Rattle.rac_nums.specs.declared.names.Scn.{Scn}
-use Rattle.rac_nums.specs.declared.names.InstNo.{InstNo}
-use Rattle.rac_nums.specs.declared.value.Value.{Value}
-use Rattle.row_model.specs.declared.entry.Entry.{Entry}
-use Rattle.row_model.specs.declared.entry.Entry.TheVariants.{Opened, Started, Rows, Changed, Marked, Committed, Acked, Plain}
-use Rattle.row_model.specs.Past.{Past, Start, start_of, same_xid, home_of}
-use Rattle.row_model.specs.Standing.{is_open}
-use Rattle.row_model.specs.Sees.{own}
-use Rattle.row_model.specs.Good.{Range}
-use Rattle.row_model.proofs.XidLemmas.{same_xid-true}
+use Rattle.base_types.specs.declared.names.Xid.{Xid}
+use Rattle.base_types.specs.declared.names.RowNo.{RowNo}
+use Rattle.base_types.specs.declared.names.Scn.{Scn}
+use Rattle.base_types.specs.declared.names.InstNo.{InstNo}
+use Rattle.base_types.specs.declared.value.Value.{Value}
+use Rattle.journal.specs.declared.entry.Entry.{Entry}
+use Rattle.journal.specs.declared.entry.Entry.TheVariants.{Opened, Started, Rows, Changed, Marked, Committed, Acked, Plain}
+use Rattle.journal.specs.Past.{Past, start_of, same_xid, home_of}
+use Rattle.journal.specs.declared.deeds.Start.{Start}
+use Rattle.journal.specs.Standing.{is_open}
+use Rattle.journal.specs.Sees.{own}
+use Rattle.journal.specs.Good.{Range}
+use Rattle.journal.proofs.XidLemmas.{same_xid-true}
 use Rattle.script_text.specs.declared.item.Item.{Item}
 use Rattle.script_text.specs.declared.item.Item.TheVariants.{Session, CrashAfter, CrashMark, Start as StartItem, Remaster, Checkpoint, Hold}
 use Rattle.script_text.specs.declared.item.Item.TheVariants.{Stmt as Statement}
@@ -86,7 +87,7 @@ module _ (parts : ScriptParts) (done : List (ℕ × Item)) (last : ℕ) where
 
   -- a get is answered
   pub Lined-rows : (past : Past) (slots : List SlotUse) (n s : ℕ) (row : RowNo) (rows : List (RowNo × Value)) → IsNext parts done last (n, Statement 0 (Get row))
-      → start_of n past ≡ Some (record { session = 0; s = s })
+      → start_of n past ≡ Some (record { session = 0; snapshot = s })
       → Lined parts done last past slots → Lined parts (done ++ (n, Statement 0 (Get row)) ∷ []) n (Rows n rows ∷ past) slots
   Lined-rows past slots n s row rows next start lined =
       record {
@@ -98,7 +99,7 @@ module _ (parts : ScriptParts) (done : List (ℕ × Item)) (last : ℕ) where
 
   -- a put is answered
   pub Lined-changed : (past : Past) (old now : List SlotUse) (n s : ℕ) (x : Xid) (row : RowNo) (found value : Value) → IsNext parts done last (n, Statement 0 (Put row value))
-      → start_of n past ≡ Some (record { session = 0; s = s })
+      → start_of n past ≡ Some (record { session = 0; snapshot = s })
       → IsOwnOrNew 0 past x → ((k : ℕ) → wrap_at old k ≤ wrap_at now k)
       → Lined parts done last past old → Lined parts (done ++ (n, Statement 0 (Put row value)) ∷ []) n (Changed n x row found value ∷ past) now
   Lined-changed past old now n s x row found value next start mine wraps lined =
@@ -153,10 +154,10 @@ module _ (parts : ScriptParts) (done : List (ℕ × Item)) (last : ℕ) where
 
 -- the transaction of a put is the own one or new
 pub own-or-new : (asked : ℕ → Option Range) (past : Past) (node : Parts) (x : Xid) → Sound asked 0 past node → Proper 0 past node
-    → MatchOption node.own ((wrap_at node.slots x.slot < x.wrap) × (x.seg.0 ≡ 0) × (is_some node.home ≡ true) × (is_over x past ≡ false)) (λ y. x ≡ y) → IsOwnOrNew 0 past x
+    → MatchOption node.own ((wrap_at node.slots x.slot < x.wrap) × (x.seg ≡ 0) × (is_some node.home ≡ true) × (is_over x past ≡ false)) (λ y. x ≡ y) → IsOwnOrNew 0 past x
 own-or-new asked past node x sound proper h = rw sound.own_is (by_own node.own proper.alone h)
   where
-    by_home : (o : Option InstNo) → is_some o ≡ true → home_of 0 past ≡ option_map (λ i. i.0) o → IfSome o (λ i. i.0 ≡ 0) → home_of 0 past ≡ Some 0
+    by_home : (o : Option InstNo) → is_some o ≡ true → home_of 0 past ≡ o → IfSome o (λ i. i ≡ 0) → home_of 0 past ≡ Some 0
     by_home None o h2 at_home = (cc)
     by_home (Some i) o h2 at_home = rw (h2, at_home) refl
 
@@ -165,7 +166,7 @@ own-or-new asked past node x sound proper h = rw sound.own_is (by_own node.own p
     shut alone true e = let clash = alone x e in (cc)
 
     by_own : (o : Option Xid) → ((y : Xid) → is_open y past ≡ true → o ≡ Some y)
-        → MatchOption o ((wrap_at node.slots x.slot < x.wrap) × (x.seg.0 ≡ 0) × (is_some node.home ≡ true) × (is_over x past ≡ false)) (λ y. x ≡ y)
+        → MatchOption o ((wrap_at node.slots x.slot < x.wrap) × (x.seg ≡ 0) × (is_some node.home ≡ true) × (is_over x past ≡ false)) (λ y. x ≡ y)
         → MatchOption o (IsNew 0 past x) (λ y. x ≡ y)
     by_own None alone h = record {
       home = by_home node.home h.2 proper.home proper.at_home ∙ sym (ap (λ (k : ℕ). Some k) h.1);

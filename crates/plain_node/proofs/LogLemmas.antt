@@ -2,20 +2,21 @@
 use Rattle.std.proofs.Common.{◌≡◌, ◌∙◌, ℕ, List, [], ◌∷◌, ◌++◌, map, reverse, take, drop, Bool, true, false, Option, Some, None, IfSome, refl, ap, sym, ◌||◌}
 use Rattle.std.specs.List.{AllByRecursion}
 use Rattle.std.proofs.lemmas.List.{append-nil, append_assoc, take-append-drop}
-use Rattle.rac_nums.specs.declared.names.RowNo.{RowNo}
-use Rattle.rac_nums.specs.declared.names.Xid.{Xid}
-use Rattle.rac_nums.specs.declared.names.Scn.{Scn}
-use Rattle.rac_nums.specs.declared.names.InstNo.{InstNo}
-use Rattle.rac_nums.specs.declared.redo.Redo.{Redo}
-use Rattle.rac_nums.specs.declared.value.Value.{Value}
-use Rattle.log_table.specs.declared.line.HistoryLine.{HistoryLine}
-use Rattle.log_table.specs.LogHistory.{is_commit as ends, log_history}
-use Rattle.row_model.specs.Past.{Past}
-use Rattle.row_model.specs.Stood.{stood, is_commit}
-use Rattle.row_model.specs.declared.entry.Entry.{Entry}
-use Rattle.row_model.specs.declared.entry.Entry.TheVariants.{Opened, Started, Rows, Plain, Committed}
-use Rattle.row_model.specs.History.{Commit, history, history_after, history_of_past, marked}
-use Rattle.row_model.proofs.XidLemmas.{same_xid-refl}
+use Rattle.base_types.specs.declared.names.RowNo.{RowNo}
+use Rattle.base_types.specs.declared.names.Xid.{Xid}
+use Rattle.base_types.specs.declared.names.Scn.{Scn}
+use Rattle.base_types.specs.declared.names.InstNo.{InstNo}
+use Rattle.redo_types.specs.declared.redo.Redo.{Redo}
+use Rattle.base_types.specs.declared.value.Value.{Value}
+use Rattle.log_history.specs.declared.line.HistoryLine.{HistoryLine}
+use Rattle.log_history.specs.LogHistory.{is_commit as ends, log_history}
+use Rattle.journal.specs.Past.{Past}
+use Rattle.journal.specs.Stood.{stood, is_commit}
+use Rattle.journal.specs.declared.entry.Entry.{Entry}
+use Rattle.journal.specs.declared.entry.Entry.TheVariants.{Opened, Started, Rows, Plain, Committed}
+use Rattle.journal.specs.History.{history_after, history, marked}
+use Rattle.journal.specs.declared.deeds.Commit.{Commit}
+use Rattle.journal.proofs.XidLemmas.{same_xid-refl}
 use Rattle.plain_node.specs.declared.node.Node.{Node}
 use Rattle.plain_node.specs.Logged.{Logged, WaitsFor, line_of_commit, lines_in}
 use Rattle.plain_node.specs.Runs.{IsProper}
@@ -36,12 +37,12 @@ Logged-none node none =
 
 -- an entry that is no commit leaves all that is logged, at a node with the same transaction and slots
 pub Logged-same : (durable waits : List Redo) (past now_past : Past) (old now : Parts)
-    → history_of_past now_past ≡ history_of_past past → now.own ≡ old.own → now.pending ≡ old.pending → now.slots ≡ old.slots
+    → history now_past ≡ history past → now.own ≡ old.own → now.pending ≡ old.pending → now.slots ≡ old.slots
     → Logged durable waits past old → Logged durable waits now_past now
-Logged-same durable waits past now_past old now history own pending slots logged =
+Logged-same durable waits past now_past old now same own pending slots logged =
     record {
       each = logged.each;
-      lines = rw history logged.lines;
+      lines = rw same logged.lines;
       own = rw (own, pending) logged.own;
       unused = λ x later. logged.unused x (rw slots at later);
       waiting = All-map (WaitsFor old) (WaitsFor now) waits (λ r h. (h.0, own ∙ h.1)) logged.waiting;
@@ -78,26 +79,26 @@ Stood past commit = stood (is_commit commit.xid) past ≡ true
 
 stood-after : (e : Entry) (past : Past) (before : List Commit) → AllByRecursion (Stood (e ∷ past)) before → AllByRecursion (Stood (e ∷ past)) (history_after e past before)
 stood-after (Committed x c i) past before h =
-    All-entered (Stood (Committed x c i ∷ past)) (record { c = c.0; inst = i.0; xid = x; changes = marked x c.0 past }) before (rw (same_xid-refl x) refl) h
+    All-entered (Stood (Committed x c i ∷ past)) (record { commit_scn = c; inst = i; xid = x; changes = marked x c past }) before (rw (same_xid-refl x) refl) h
 stood-after _ past before h = h
 
-pub history-stood : (past : Past) → AllByRecursion (λ commit. stood (is_commit commit.xid) past ≡ true) (history_of_past past)
+pub history-stood : (past : Past) → AllByRecursion (λ commit. stood (is_commit commit.xid) past ≡ true) (history past)
 history-stood [] = tt
 history-stood (e ∷ past) =
-    stood-after e past (history_of_past past) (All-map (Stood past) (Stood (e ∷ past)) (history_of_past past) (λ k h. true_after e past k.xid h) (history-stood past))
+    stood-after e past (history past) (All-map (Stood past) (Stood (e ∷ past)) (history past) (λ k h. true_after e past k.xid h) (history-stood past))
 
 -- each transaction that a Commit record ends has a commit in the journal
-pub EndsPass-stood : (made : List Redo) (past : Past) → lines_in made ≡ map line_of_commit (reverse (history_of_past past))
+pub EndsPass-stood : (made : List Redo) (past : Past) → lines_in made ≡ map line_of_commit (reverse (history past))
     → EndsPass (λ x. stood (is_commit x) past) made
 EndsPass-stood made past lines =
     EndsPass-lines (λ x. stood (is_commit x) past) made made
-    (rw lines (All-mapped (λ l. stood (is_commit l.xid) past ≡ true) line_of_commit (reverse (history_of_past past))
-    (All-reverse (λ commit. stood (is_commit commit.xid) past ≡ true) (history_of_past past) (history-stood past))))
+    (rw lines (All-mapped (λ l. stood (is_commit l.xid) past ≡ true) line_of_commit (reverse (history past))
+    (All-reverse (λ commit. stood (is_commit commit.xid) past ≡ true) (history past) (history-stood past))))
 
 -- The lines are those of all records, whatever of those that wait is on the disk.
 pub lines-durable : (durable waits : List Redo) (past : Past) (node : Parts) (m : ℕ) → Logged durable waits past node
     → IfSome node.own (λ x. stood (is_commit x) past ≡ false)
-    → lines_in (durable ++ take m waits) ≡ map line_of_commit (reverse (history_of_past past))
+    → lines_in (durable ++ take m waits) ≡ map line_of_commit (reverse (history past))
 lines-durable durable waits past node m logged own_new = sym more ∙ (ap lines_in split ∙ logged.lines)
   where
     test : Xid → Bool
@@ -129,14 +130,14 @@ lines-durable durable waits past node m logged own_new = sym more ∙ (ap lines_
 own-new : (past : Past) (node : Parts) → Proper 0 past node → IfSome node.own (λ x. stood (is_commit x) past ≡ false)
 own-new past node proper = by_own node.own proper.own_new
   where
-    by_own : (o : Option Xid) → IfSome o (λ x. (x.seg.0 ≡ 0) × (stood (is_commit x) past ≡ false)) → IfSome o (λ x. stood (is_commit x) past ≡ false)
+    by_own : (o : Option Xid) → IfSome o (λ x. (x.seg ≡ 0) × (stood (is_commit x) past ≡ false)) → IfSome o (λ x. stood (is_commit x) past ≡ false)
     by_own None h = h
     by_own (Some x) h = h.1
 
 -- The log tells the history of the journal, whatever of the records that wait is on the disk.
-pub logs-tell : (durable waits : List Redo) (node : Node) (m : ℕ) → IsProper node → Logged durable waits (reverse node.journal) (parts_of node)
+pub logs-tell : (durable waits : List Redo) (node : Node) (m : ℕ) → IsProper node → Logged durable waits node.journal (parts_of node)
     → log_history ((durable ++ take m waits) ∷ [] ∷ [] ∷ [] ∷ [] ∷ [] ∷ [] ∷ [] ∷ []) ≡ map line_of_commit (reverse (history node.journal))
 logs-tell durable waits node m proper logged =
     log_history-of_one (durable ++ take m waits) (history node.journal)
-    (lines-durable durable waits (reverse node.journal) (parts_of node) m logged (own-new (reverse node.journal) (parts_of node) proper))
-    (Falls-history (reverse node.journal))
+    (lines-durable durable waits node.journal (parts_of node) m logged (own-new node.journal (parts_of node) proper))
+    (Falls-history node.journal)

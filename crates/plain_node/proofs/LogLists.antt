@@ -6,17 +6,18 @@ use Rattle.std.proofs.lemmas.List.{append-nil, map-append, reverse-append}
 use Rattle.std.proofs.lemmas.List.Elements.{filter_map-append}
 use Rattle.std.proofs.lemmas.Bool.{le-ltb, ltb-false, ltb-true, eqb-true, eq-eqb}
 use Rattle.std.proofs.lemmas.Bool.Decides.{eqb_tells}
-use Rattle.rac_nums.specs.declared.names.RowNo.{RowNo}
-use Rattle.rac_nums.specs.declared.names.Xid.{Xid}
-use Rattle.rac_nums.specs.declared.redo.Redo.{Redo}
-use Rattle.rac_nums.specs.declared.value.Value.{Value}
-use Rattle.log_table.specs.declared.line.HistoryLine.{HistoryLine}
-use Rattle.log_table.specs.LogHistory.{change_in, changes_in, entered as line_entered, in_order, is_after, is_change, is_commit, is_step_back, line_of, log_history, row_and_value, takes_back}
-use Rattle.row_model.specs.Past.{Past, same_xid}
-use Rattle.row_model.specs.declared.entry.Entry.{Entry}
-use Rattle.row_model.specs.declared.entry.Entry.TheVariants.{Committed}
-use Rattle.row_model.specs.History.{Commit, entered, history_after, history_of_past, is_before, marked}
-use Rattle.row_model.proofs.XidLemmas.{same_xid-true}
+use Rattle.base_types.specs.declared.names.RowNo.{RowNo}
+use Rattle.base_types.specs.declared.names.Xid.{Xid}
+use Rattle.redo_types.specs.declared.redo.Redo.{Redo}
+use Rattle.base_types.specs.declared.value.Value.{Value}
+use Rattle.log_history.specs.declared.line.HistoryLine.{HistoryLine}
+use Rattle.log_history.specs.LogHistory.{change_in, changes_in, entered as line_entered, in_order, is_after, is_change, is_commit, is_step_back, line_of, log_history, row_and_value, takes_back}
+use Rattle.journal.specs.Past.{Past, same_xid}
+use Rattle.journal.specs.declared.entry.Entry.{Entry}
+use Rattle.journal.specs.declared.entry.Entry.TheVariants.{Committed}
+use Rattle.journal.specs.History.{entered, history_after, history, is_before, marked}
+use Rattle.journal.specs.declared.deeds.Commit.{Commit}
+use Rattle.journal.proofs.XidLemmas.{same_xid-true}
 use Rattle.plain_node.specs.Logged.{line_of_commit, lines_in}
 
 pub All-append : {X : Type 0} (P : X → Type 0) (xs ys : List X) → AllByRecursion P xs → AllByRecursion P ys → AllByRecursion P (xs ++ ys)
@@ -105,7 +106,7 @@ EndsPass-lines test all (s ∷ made) h = by_kind (λ k. EndsPass-lines test all 
   where
     by_kind : (AllByRecursion (λ (l : HistoryLine). test l.xid ≡ true) (filter_map (line_of all 0) made) → EndsPass test made) → (b : Bool) → is_commit s.kind ≡ b
         → AllByRecursion (λ (l : HistoryLine). test l.xid ≡ true)
-        (cons_option (cond b (Some (record { c = s.scn; inst = record { 0 = 0 }; xid = s.xid; changes = changes_in all s.xid })) None) (filter_map (line_of all 0) made))
+        (cons_option (cond b (Some (record { commit_scn = s.scn; inst = 0; xid = s.xid; changes = changes_in all s.xid })) None) (filter_map (line_of all 0) made))
         → (is_commit s.kind ≡ true → test s.xid ≡ true) × EndsPass test made
     by_kind more true is h = (λ e. h.0, more h.1)
     by_kind more false is h = (λ e. (cc), more h)
@@ -133,8 +134,8 @@ lines-more test made more none ends news =
         ∙ append-nil (changes_in made s.xid))
 
     by_kind : (s : Redo) (b : Bool) → is_commit s.kind ≡ b → (is_commit s.kind ≡ true → test s.xid ≡ true)
-        → ◌≡◌ {A = Option HistoryLine} (cond b (Some (record { c = s.scn; inst = record { 0 = 0 }; xid = s.xid; changes = changes_in (made ++ more) s.xid })) None)
-        (cond b (Some (record { c = s.scn; inst = record { 0 = 0 }; xid = s.xid; changes = changes_in made s.xid })) None)
+        → ◌≡◌ {A = Option HistoryLine} (cond b (Some (record { commit_scn = s.scn; inst = 0; xid = s.xid; changes = changes_in (made ++ more) s.xid })) None)
+        (cond b (Some (record { commit_scn = s.scn; inst = 0; xid = s.xid; changes = changes_in made s.xid })) None)
     by_kind s false is h = refl
     by_kind s true is h = rw (same s (h is)) refl
 
@@ -153,7 +154,7 @@ Falls (a ∷ older) = AllByRecursion (λ b. is_before a b ≡ false) older × Fa
 
 -- a commit's SCN, and where it is equal its instance, is at least another's
 abbrev pub NotBefore : Commit → Commit → Type 0
-NotBefore a b = (b.c ≤ a.c) × (a.c ≡ b.c → b.inst ≤ a.inst)
+NotBefore a b = (b.commit_scn ≤ a.commit_scn) × (a.commit_scn ≡ b.commit_scn → b.inst ≤ a.inst)
 
 none_is : (p q r : Bool) → (p || q && r) ≡ false → (p ≡ false) × (q ≡ true → r ≡ false)
 none_is true q r h = (cc)
@@ -167,36 +168,36 @@ one_is false false r h = (cc)
 
 not_before : (a b : Commit) → is_before a b ≡ false → NotBefore a b
 not_before a b h =
-    let both = none_is (ltb a.c b.c) (a.c == b.c) (ltb a.inst b.inst) h in
-    (ltb-false a.c b.c both.0, λ e. ltb-false a.inst b.inst (both.1 (eq-eqb a.c b.c e)))
+    let both = none_is (ltb a.commit_scn b.commit_scn) (a.commit_scn == b.commit_scn) (ltb a.inst b.inst) h in
+    (ltb-false a.commit_scn b.commit_scn both.0, λ e. ltb-false a.inst b.inst (both.1 (eq-eqb a.commit_scn b.commit_scn e)))
 
 is_not_before : (a b : Commit) → NotBefore a b → is_before a b ≡ false
-is_not_before a b h = rw (le-ltb a.c b.c h.0) (by_equal (eqb_tells a.c b.c))
+is_not_before a b h = rw (le-ltb a.commit_scn b.commit_scn h.0) (by_equal (eqb_tells a.commit_scn b.commit_scn))
   where
-    by_equal : ((a.c == b.c) ≡ true) × (a.c ≡ b.c) ⊎ ((a.c == b.c) ≡ false) × (a.c ≢ b.c) → (a.c == b.c && ltb a.inst b.inst) ≡ false
+    by_equal : ((a.commit_scn == b.commit_scn) ≡ true) × (a.commit_scn ≡ b.commit_scn) ⊎ ((a.commit_scn == b.commit_scn) ≡ false) × (a.commit_scn ≢ b.commit_scn) → (a.commit_scn == b.commit_scn && ltb a.inst b.inst) ≡ false
     by_equal (inl e) = rw (e.0, le-ltb a.inst b.inst (h.1 e.1)) refl
     by_equal (inr e) = rw e.0 refl
 
 not_after : (a b : Commit) → NotBefore a b → is_after (line_of_commit b) (line_of_commit a) ≡ false
-not_after a b h = rw (le-ltb a.c b.c h.0) (by_equal (eqb_tells b.c a.c))
+not_after a b h = rw (le-ltb a.commit_scn b.commit_scn h.0) (by_equal (eqb_tells b.commit_scn a.commit_scn))
   where
-    by_equal : ((b.c == a.c) ≡ true) × (b.c ≡ a.c) ⊎ ((b.c == a.c) ≡ false) × (b.c ≢ a.c) → (b.c == a.c && ltb a.inst b.inst) ≡ false
+    by_equal : ((b.commit_scn == a.commit_scn) ≡ true) × (b.commit_scn ≡ a.commit_scn) ⊎ ((b.commit_scn == a.commit_scn) ≡ false) × (b.commit_scn ≢ a.commit_scn) → (b.commit_scn == a.commit_scn && ltb a.inst b.inst) ≡ false
     by_equal (inl e) = rw (e.0, le-ltb a.inst b.inst (h.1 (sym e.1))) refl
     by_equal (inr e) = rw e.0 refl
 
 not_before-turned : (a b : Commit) → is_before a b ≡ true → is_before b a ≡ false
-not_before-turned a b h = is_not_before b a (by_one (one_is (ltb a.c b.c) (a.c == b.c) (ltb a.inst b.inst) h))
+not_before-turned a b h = is_not_before b a (by_one (one_is (ltb a.commit_scn b.commit_scn) (a.commit_scn == b.commit_scn) (ltb a.inst b.inst) h))
   where
-    by_one : (ltb a.c b.c ≡ true) ⊎ ((a.c == b.c) ≡ true) × (ltb a.inst b.inst ≡ true) → NotBefore b a
-    by_one (inl e) = let lt = ltb-true a.c b.c e in (omega arith, λ same. omega arith)
-    by_one (inr e) = let same = eqb-true a.c b.c e.0 in let lt = ltb-true a.inst b.inst e.1 in (omega arith, λ f. omega arith)
+    by_one : (ltb a.commit_scn b.commit_scn ≡ true) ⊎ ((a.commit_scn == b.commit_scn) ≡ true) × (ltb a.inst b.inst ≡ true) → NotBefore b a
+    by_one (inl e) = let lt = ltb-true a.commit_scn b.commit_scn e in (omega arith, λ same. omega arith)
+    by_one (inr e) = let same = eqb-true a.commit_scn b.commit_scn e.0 in let lt = ltb-true a.inst b.inst e.1 in (omega arith, λ f. omega arith)
 
 not_before-all : (a b k : Commit) → is_before a b ≡ false → is_before b k ≡ false → is_before a k ≡ false
 not_before-all a b k p q = is_not_before a k (by_both (not_before a b p) (not_before b k q))
   where
     by_both : NotBefore a b → NotBefore b k → NotBefore a k
     by_both (p0, p1) (q0, q1) =
-        (omega arith, λ e. let e1 : a.c ≡ b.c = omega arith in let e2 : b.c ≡ k.c = omega arith in let l1 = p1 e1 in let l2 = q1 e2 in omega arith)
+        (omega arith, λ e. let e1 : a.commit_scn ≡ b.commit_scn = omega arith in let e2 : b.commit_scn ≡ k.commit_scn = omega arith in let l1 = p1 e1 in let l2 = q1 e2 in omega arith)
 
 pub All-entered : (P : Commit → Type 0) (a : Commit) (commits : List Commit) → P a → AllByRecursion P commits → AllByRecursion P (entered a commits)
 All-entered P a [] p ps = (p, tt)
@@ -216,12 +217,12 @@ Falls-entered a (b ∷ older) h = by_test (is_before a b) refl (Falls-entered a 
         ((is, All-map (λ k. is_before b k ≡ false) (λ k. is_before a k ≡ false) older (λ k after. not_before-all a b k is after) h.0), h)
 
 Falls-after : (e : Entry) (past : Past) (before : List Commit) → Falls before → Falls (history_after e past before)
-Falls-after (Committed x c i) past before h = Falls-entered (record { c = c.0; inst = i.0; xid = x; changes = marked x c.0 past }) before h
+Falls-after (Committed x c i) past before h = Falls-entered (record { commit_scn = c; inst = i; xid = x; changes = marked x c past }) before h
 Falls-after _ past before h = h
 
-pub Falls-history : (past : Past) → Falls (history_of_past past)
+pub Falls-history : (past : Past) → Falls (history past)
 Falls-history [] = tt
-Falls-history (e ∷ past) = Falls-after e past (history_of_past past) (Falls-history past)
+Falls-history (e ∷ past) = Falls-after e past (history past) (Falls-history past)
 
 in_order-last : (sorted lines : List HistoryLine) (a : HistoryLine) → in_order sorted (lines ++ a ∷ []) ≡ line_entered a (in_order sorted lines)
 in_order-last sorted [] a = refl

@@ -2,34 +2,35 @@
 use Rattle.std.proofs.Common.{◌≡◌, ◌∙◌, ℕ, ◌+◌, ◌<◌, ◌≤◌, List, [], ◌∷◌, ◌++◌, map, reverse, length, take, zero, suc, ◌⊎◌, inl, inr, Bool, true, false, Option, Some, None, MatchOption, refl, ap, sym, subst, arith}
 use Rattle.std.proofs.Math.Nat.{div-add-mod}
 use Rattle.std.proofs.lemmas.List.{append-nil, append_assoc, take_all}
-use Rattle.rac_nums.specs.declared.names.RowNo.{RowNo}
-use Rattle.rac_nums.specs.declared.names.Xid.{Xid}
-use Rattle.rac_nums.specs.declared.names.InstNo.{InstNo}
-use Rattle.rac_nums.specs.declared.names.Scn.{Scn}
-use Rattle.rac_nums.specs.declared.redo.Redo.{Redo}
-use Rattle.rac_nums.specs.declared.value.Value.{Value}
+use Rattle.base_types.specs.declared.names.RowNo.{RowNo}
+use Rattle.base_types.specs.declared.names.Xid.{Xid}
+use Rattle.base_types.specs.declared.names.InstNo.{InstNo}
+use Rattle.base_types.specs.declared.names.Scn.{Scn}
+use Rattle.redo_types.specs.declared.redo.Redo.{Redo}
+use Rattle.base_types.specs.declared.value.Value.{Value}
 use Rattle.redo_record.specs.Redo.{IsRedo}
 use Rattle.plain_redo.specs.Records.{change_record, commit_record}
-use Rattle.log_table.specs.declared.line.HistoryLine.{HistoryLine}
-use Rattle.log_table.specs.LogHistory.{changes_in, is_step_back, log_history}
-use Rattle.row_model.specs.Past.{Past, same_xid}
-use Rattle.row_model.specs.Standing.{Change, changes_of, standing}
-use Rattle.row_model.specs.Stood.{stood, is_commit}
-use Rattle.row_model.specs.declared.entry.Entry.TheVariants.{Opened, Started, Rows, Plain, Changed, Marked, Committed, Acked, Ended, Refused}
-use Rattle.row_model.specs.declared.cause.Cause.TheVariants.{Lost}
-use Rattle.row_model.specs.Good.{Range, listed}
-use Rattle.row_model.specs.History.{Commit, history, history_of_past}
-use Rattle.row_model.proofs.XidLemmas.{same_xid-refl, same_xid-true}
+use Rattle.log_history.specs.declared.line.HistoryLine.{HistoryLine}
+use Rattle.log_history.specs.LogHistory.{changes_in, is_step_back, log_history}
+use Rattle.journal.specs.Past.{Past, same_xid}
+use Rattle.journal.specs.Standing.{changes_of, standing}
+use Rattle.journal.specs.declared.deeds.Change.{Change}
+use Rattle.journal.specs.Stood.{stood, is_commit}
+use Rattle.journal.specs.declared.entry.Entry.TheVariants.{Started, Changed, Marked, Committed, Acked}
+use Rattle.journal.specs.Good.{Range}
+use Rattle.journal.specs.History.{history}
+use Rattle.journal.specs.declared.deeds.Commit.{Commit}
+use Rattle.journal.proofs.XidLemmas.{same_xid-refl, same_xid-true}
 use Rattle.plain_node.specs.declared.node.Node.{Node}
 use Rattle.plain_node.specs.declared.versions.Pending.{Pending}
 use Rattle.plain_node.specs.Logged.{Logged, WaitsFor, line_of_commit, lines_in, pair_in, pair_of}
 use Rattle.plain_node.specs.Runs.{IsSound, IsProper}
 use Rattle.plain_node.specs.Slots.{wrap_at, next_xid, IsLeastUsed}
 use Rattle.plain_node.specs.Sound.{Parts, Sound, parts_of, as_pending}
-use Rattle.plain_node.specs.Steps.{IsOwn, begun, changed, ended_by, got, opened, started, told, value_in}
-use Rattle.plain_node.specs.Lost.{entered, lost, marked}
+use Rattle.plain_node.specs.Steps.{IsOwn, begun, changed, ended_by, opened, started}
+use Rattle.plain_node.specs.Lost.{entered, marked}
 use Rattle.plain_node.proofs.LogLists.{All-append, All-map, All-second, Falls-history, NoneBack, log_history-of_one, changes_for, changes_for-others, changes_in-more, lines-first, lines-more, reverse_first}
-use Rattle.plain_node.proofs.LogLemmas.{EndsPass-stood, Logged-opened, Logged-plain, Logged-rows, Logged-started, lines-durable, logs-tell}
+use Rattle.plain_node.proofs.LogLemmas.{EndsPass-stood, Logged-opened, Logged-started}
 use Rattle.plain_node.proofs.SoundLemmas.{history-committed, own_changes-own, wrap_at-ended}
 use Rattle.plain_node.proofs.StepLemmas.{IsSound-started, pending-none, reverse_push, wrap_at-begun, wrap_at-taken}
 
@@ -72,7 +73,7 @@ Logged-changed durable waits past old now n x scn row held found value redo own_
     none = All-append (λ s. is_step_back s.kind ≡ false) made (r ∷ []) logged.nothing_back (refl, tt)
 
     one_change : changes_for x (r ∷ []) ≡ (row, value) ∷ []
-    one_change = rw (same_xid-refl x) (ap (λ (k : ℕ). (let at : RowNo = record { 0 = k } in (at, value)) ∷ []) (div-add-mod row.0 8))
+    one_change = rw (same_xid-refl x) (ap (λ (k : ℕ). (let at : RowNo = k in (at, value)) ∷ []) (div-add-mod row 8))
 
     other : (y : Xid) → wrap_at now.slots y.slot < y.wrap → same_xid y x ≡ false
     other y later = by_name (same_xid y x) refl
@@ -93,13 +94,13 @@ pairs (change ∷ changes) = ap (λ (ps : List (RowNo × Value)). pair_of change
 
 -- the record of a commit, once it is on the disk, tells the commit
 pub lines-committed : (asked : ℕ → Option Range) (durable waits : List Redo) (past : Past) (old : Parts) (n : ℕ) (x : Xid) (c : Scn)
-    → old.own ≡ Some x → c.0 ≡ old.scn + 1 → stood (is_commit x) past ≡ false → Sound asked 0 past old → Logged durable waits past old
-    → lines_in (durable ++ waits ++ commit_record x c ∷ []) ≡ map line_of_commit (reverse (history_of_past (Committed x c (record { 0 = 0 }) ∷ Marked n x c ∷ past)))
+    → old.own ≡ Some x → c ≡ old.scn + 1 → stood (is_commit x) past ≡ false → Sound asked 0 past old → Logged durable waits past old
+    → lines_in (durable ++ waits ++ commit_record x c ∷ []) ≡ map line_of_commit (reverse (history (Committed x c 0 ∷ Marked n x c ∷ past)))
 lines-committed asked durable waits past old n x c own_is next new_x sound logged =
     lines-more (λ y. stood (is_commit y) past) made (r ∷ []) none (EndsPass-stood made past logged.lines) (new_x, tt)
     ∙ (ap (λ (ls : List HistoryLine). ls ++ line (changes_in (made ++ r ∷ []) x) ∷ []) logged.lines
     ∙ (ap (λ (cs : List (RowNo × Value)). map line_of_commit (reverse commits) ++ line cs ∷ []) changes
-    ∙ sym (ap (λ (ks : List Commit). map line_of_commit (reverse ks)) history ∙ lines-first a commits)))
+    ∙ sym (ap (λ (ks : List Commit). map line_of_commit (reverse ks)) entered_is ∙ lines-first a commits)))
   where
     r : Redo
     r = commit_record x c
@@ -108,19 +109,19 @@ lines-committed asked durable waits past old n x c own_is next new_x sound logge
     made = durable ++ waits
 
     commits : List Commit
-    commits = history_of_past past
+    commits = history past
 
     a : Commit
-    a = record { c = c.0; inst = 0; xid = x; changes = changes_of (standing x past) }
+    a = record { commit_scn = c; inst = 0; xid = x; changes = changes_of (standing x past) }
 
     line : List (RowNo × Value) → HistoryLine
-    line cs = record { c = c; inst = record { 0 = 0 }; xid = x; changes = cs }
+    line cs = record { commit_scn = c; inst = 0; xid = x; changes = cs }
 
     none : NoneBack (made ++ r ∷ [])
     none = All-append (λ s. is_step_back s.kind ≡ false) made (r ∷ []) logged.nothing_back (refl, tt)
 
-    history : history_of_past (Committed x c (record { 0 = 0 }) ∷ Marked n x c ∷ past) ≡ a ∷ commits
-    history = history-committed asked 0 past n x c (record { 0 = 0 }) old.known sound.commits (let le = sound.clock in omega arith)
+    entered_is : history (Committed x c 0 ∷ Marked n x c ∷ past) ≡ a ∷ commits
+    entered_is = history-committed asked 0 past n x c 0 old.known sound.commits (let le = sound.clock in omega arith)
 
     stand : map as_pending (changes_of (standing x past)) ≡ old.pending
     stand = ap (map as_pending) (sym (own_changes-own asked 0 past x (sound.own_is ∙ own_is))) ∙ sound.pending
@@ -134,10 +135,10 @@ lines-committed asked durable waits past old n x c own_is next new_x sound logge
 
 -- the own transaction commits
 pub Logged-committed : (asked : ℕ → Option Range) (durable waits : List Redo) (past : Past) (old now : Parts) (n : ℕ) (x : Xid) (c : Scn)
-    → IsRedo (commit_record x c) → old.own ≡ Some x → c.0 ≡ old.scn + 1 → stood (is_commit x) past ≡ false
+    → IsRedo (commit_record x c) → old.own ≡ Some x → c ≡ old.scn + 1 → stood (is_commit x) past ≡ false
     → now.own ≡ None → ((k : ℕ) → wrap_at now.slots k ≡ wrap_at old.slots k)
     → Sound asked 0 past old → Logged durable waits past old
-    → Logged (durable ++ waits ++ commit_record x c ∷ []) [] (Acked n x c ∷ Committed x c (record { 0 = 0 }) ∷ Marked n x c ∷ past) now
+    → Logged (durable ++ waits ++ commit_record x c ∷ []) [] (Acked n x c ∷ Committed x c 0 ∷ Marked n x c ∷ past) now
 Logged-committed asked durable waits past old now n x c redo own_is next new_x none_now wraps sound logged =
     record {
       each = rw (append-nil (made ++ r ∷ [])) (All-append IsRedo made (r ∷ []) logged.each (redo, tt));
@@ -158,36 +159,30 @@ Logged-committed asked durable waits past old now n x c redo own_is next new_x n
     none : NoneBack (made ++ r ∷ [])
     none = All-append (λ s. is_step_back s.kind ≡ false) made (r ∷ []) logged.nothing_back (refl, tt)
 
--- a fault adds no commit
-pub history-lost : (node : Node) (n : ℕ) → history (lost node n).journal ≡ history node.journal
-history-lost node n =
-    ap history_of_past (reverse_push (node.journal ++ Ended (record { 0 = 0 }) false ∷ []) (Refused n Lost))
-    ∙ ap history_of_past (reverse_push node.journal (Ended (record { 0 = 0 }) false))
-
 module _ (asked : ℕ → Option Range) (durable waits : List Redo) where
   -- a change by x, told on a node where x is the own transaction by then
   change-logged : (old mid : Node) (n : ℕ) (x : Xid) (row : RowNo) (held found value : Value)
       → IsRedo (change_record x (changed mid n x row found value).scn row held value)
       → mid.journal ≡ (started old n 0).journal → mid.pending ≡ old.pending → mid.own ≡ Some x
       → changes_in (durable ++ waits) x ≡ reverse (map pair_in (reverse old.pending))
-      → stood (is_commit x) (reverse old.journal) ≡ false
+      → stood (is_commit x) old.journal ≡ false
       → ((q : Xid) → old.own ≡ Some q → q ≡ x)
       → ((k : ℕ) → wrap_at old.slots k ≤ wrap_at mid.slots k) → x.wrap ≤ wrap_at mid.slots x.slot
-      → Logged durable waits (reverse old.journal) (parts_of old)
+      → Logged durable waits old.journal (parts_of old)
       → Logged durable (waits ++ change_record x (changed mid n x row found value).scn row held value ∷ [])
-      (reverse (changed mid n x row found value).journal) (parts_of (changed mid n x row found value))
+      (changed mid n x row found value).journal (parts_of (changed mid n x row found value))
   change-logged old mid n x row held found value redo journal pending own_is own_before new_x only wraps used logged =
-      rw (journal, reverse_push (started old n 0).journal (Changed n x row found value), reverse_push old.journal (Started n 0 old.known))
-      (Logged-changed durable waits (Started n 0 old.known ∷ reverse old.journal) (parts_of old) (parts_of (changed mid n x row found value))
+      rw journal
+      (Logged-changed durable waits (Started n 0 old.known ∷ old.journal) (parts_of old) (parts_of (changed mid n x row found value))
       n x (changed mid n x row found value).scn row held found value redo own_before new_x only own_is
       (reverse_push mid.pending (record { row = row; value = value }) ∙ ap (λ (ps : List Pending). record { row = row; value = value } ∷ reverse ps) pending)
-      wraps used (Logged-started durable waits (reverse old.journal) (parts_of old) n 0 old.known logged))
+      wraps used (Logged-started durable waits old.journal (parts_of old) n 0 old.known logged))
 
   put-open : (old mid : Node) (n : ℕ) (x : Xid) (row : RowNo) (held found value : Value) (y : Xid) → old.own ≡ Some y → x ≡ y → mid ≡ started old n 0
       → IsRedo (change_record x (changed mid n x row found value).scn row held value)
-      → IsSound asked old → IsProper old → Logged durable waits (reverse old.journal) (parts_of old)
+      → IsSound asked old → IsProper old → Logged durable waits old.journal (parts_of old)
       → Logged durable (waits ++ change_record x (changed mid n x row found value).scn row held value ∷ [])
-      (reverse (changed mid n x row found value).journal) (parts_of (changed mid n x row found value))
+      (changed mid n x row found value).journal (parts_of (changed mid n x row found value))
   put-open old mid n x row held found value y is same mid_is redo sound proper logged =
       change-logged old mid n x row held found value redo (ap (λ (node : Node). node.journal) mid_is) (ap (λ (node : Node). node.pending) mid_is)
       (ap (λ (node : Node). node.own) mid_is ∙ is_x) (rw is_x at logged.own) (rw is_x at proper.own_new).1
@@ -205,9 +200,9 @@ module _ (asked : ℕ → Option Range) (durable waits : List Redo) where
   put-first : (old mid : Node) (n : ℕ) (x : Xid) (row : RowNo) (held found value : Value) (k : ℕ) → old.own ≡ None → k < length old.slots
       → x ≡ next_xid old.slots k → mid ≡ begun (started old n 0) k
       → IsRedo (change_record x (changed mid n x row found value).scn row held value)
-      → IsSound asked old → IsProper old → Logged durable waits (reverse old.journal) (parts_of old)
+      → IsSound asked old → IsProper old → Logged durable waits old.journal (parts_of old)
       → Logged durable (waits ++ change_record x (changed mid n x row found value).scn row held value ∷ [])
-      (reverse (changed mid n x row found value).journal) (parts_of (changed mid n x row found value))
+      (changed mid n x row found value).journal (parts_of (changed mid n x row found value))
   put-first old mid n x row held found value k is within x_is mid_is redo sound proper logged =
       change-logged old mid n x row held found value redo (ap (λ (node : Node). node.journal) mid_is) (ap (λ (node : Node). node.pending) mid_is)
       (ap (λ (node : Node). node.own) mid_is ∙ ap (λ (v : Xid). Some v) (sym x_is))
@@ -226,9 +221,9 @@ module _ (asked : ℕ → Option Range) (durable waits : List Redo) where
   put-by : (old mid : Node) (n : ℕ) (x : Xid) (row : RowNo) (held found value : Value) (o : Option Xid) → old.own ≡ o
       → MatchOption o ((k : ℕ) × IsLeastUsed old.slots k × (x ≡ next_xid old.slots k) × (mid ≡ begun (started old n 0) k)) (λ y. (x ≡ y) × (mid ≡ started old n 0))
       → IsRedo (change_record x (changed mid n x row found value).scn row held value)
-      → IsSound asked old → IsProper old → Logged durable waits (reverse old.journal) (parts_of old)
+      → IsSound asked old → IsProper old → Logged durable waits old.journal (parts_of old)
       → Logged durable (waits ++ change_record x (changed mid n x row found value).scn row held value ∷ [])
-      (reverse (changed mid n x row found value).journal) (parts_of (changed mid n x row found value))
+      (changed mid n x row found value).journal (parts_of (changed mid n x row found value))
   put-by old mid n x row held found value None is h = put-first old mid n x row held found value h.0 is h.1.within h.2 h.3
   put-by old mid n x row held found value (Some y) is h = put-open old mid n x row held found value y is h.0 h.1
 
@@ -236,165 +231,60 @@ module _ (asked : ℕ → Option Range) (durable waits : List Redo) where
   pub IsLogged-put : (old mid now : Node) (n : ℕ) (x : Xid) (row : RowNo) (held found value : Value)
       → IsOwn (started old n 0) x mid → now ≡ changed mid n x row found value
       → IsRedo (change_record x now.scn row held value)
-      → IsSound asked old → IsProper old → Logged durable waits (reverse old.journal) (parts_of old)
-      → Logged durable (waits ++ change_record x now.scn row held value ∷ []) (reverse now.journal) (parts_of now)
+      → IsSound asked old → IsProper old → Logged durable waits old.journal (parts_of old)
+      → Logged durable (waits ++ change_record x now.scn row held value ∷ []) now.journal (parts_of now)
   IsLogged-put old mid now n x row held found value own_is is redo sound proper logged =
       rw is (put-by old mid n x row held found value old.own refl own_is (rw is at redo) sound proper logged)
 
-  -- the transaction of a put has no commit yet, and is the own one by then
-  put-is_new : (old mid : Node) (n : ℕ) (x : Xid) (o : Option Xid) → old.own ≡ o
-      → MatchOption o ((k : ℕ) × IsLeastUsed old.slots k × (x ≡ next_xid old.slots k) × (mid ≡ begun (started old n 0) k)) (λ y. (x ≡ y) × (mid ≡ started old n 0))
-      → IsProper old → (mid.own ≡ Some x) × (mid.journal ≡ (started old n 0).journal) × (stood (is_commit x) (reverse old.journal) ≡ false)
-  put-is_new old mid n x None is h proper = (
-    ap (λ (node : Node). node.own) h.3 ∙ ap (λ (v : Xid). Some v) (sym h.2),
-    ap (λ (node : Node). node.journal) h.3,
-    proper.unused x (rw h.2 (omega arith)),
-  )
-  put-is_new old mid n x (Some y) is h proper =
-      (ap (λ (node : Node). node.own) h.1 ∙ is_x, ap (λ (node : Node). node.journal) h.1, (rw is_x at proper.own_new).1)
-    where
-      is_x : old.own ≡ Some x
-      is_x = is ∙ ap (λ (v : Xid). Some v) (sym h.0)
-
-  -- what a log tells that has some of the records that wait and of a put's, whether or not its change was told
-  pub logs-tell-put : (old mid now : Node) (n m : ℕ) (x : Xid) (row : RowNo) (held found value : Value)
-      → IsOwn (started old n 0) x mid → now ≡ changed mid n x row found value
-      → IsRedo (change_record x now.scn row held value)
-      → IsSound asked old → IsProper old → Logged durable waits (reverse old.journal) (parts_of old)
-      → log_history ((durable ++ take m (waits ++ change_record x now.scn row held value ∷ [])) ∷ [] ∷ [] ∷ [] ∷ [] ∷ [] ∷ [] ∷ [] ∷ [])
-      ≡ map line_of_commit (reverse (history old.journal))
-  logs-tell-put old mid now n m x row held found value own_is is redo sound proper logged =
-      log_history-of_one (durable ++ take m records) (history old.journal)
-      (lines-durable durable records (reverse now.journal) (parts_of now) m (IsLogged-put old mid now n x row held found value own_is is redo sound proper logged)
-      (rw now_own (rw past by_then.2))
-      ∙ ap (λ (ks : List Commit). map line_of_commit (reverse ks)) (ap history_of_past past))
-      (Falls-history (reverse old.journal))
-    where
-      records : List Redo
-      records = waits ++ change_record x now.scn row held value ∷ []
-
-      by_then : (mid.own ≡ Some x) × (mid.journal ≡ (started old n 0).journal) × (stood (is_commit x) (reverse old.journal) ≡ false)
-      by_then = put-is_new old mid n x old.own refl own_is proper
-
-      now_own : now.own ≡ Some x
-      now_own = ap (λ (node : Node). node.own) is ∙ by_then.0
-
-      past : reverse now.journal ≡ Changed n x row found value ∷ Started n 0 old.known ∷ reverse old.journal
-      past = rw (is, by_then.1, reverse_push (started old n 0).journal (Changed n x row found value), reverse_push old.journal (Started n 0 old.known)) refl
-
-  -- the same after a fault
-  pub logs-tell-lost-put : (old mid now : Node) (n m : ℕ) (x : Xid) (row : RowNo) (held found value : Value)
-      → IsOwn (started old n 0) x mid → now ≡ changed mid n x row found value
-      → IsRedo (change_record x now.scn row held value)
-      → IsSound asked old → IsProper old → Logged durable waits (reverse old.journal) (parts_of old)
-      → log_history ((durable ++ take m (waits ++ change_record x now.scn row held value ∷ [])) ∷ [] ∷ [] ∷ [] ∷ [] ∷ [] ∷ [] ∷ [] ∷ [])
-      ≡ map line_of_commit (reverse (history (lost (started old n 0) n).journal))
-  logs-tell-lost-put old mid now n m x row held found value own_is is redo sound proper logged =
-      logs-tell-put old mid now n m x row held found value own_is is redo sound proper logged
-      ∙ ap (λ (ks : List Commit). map line_of_commit (reverse ks))
-      (sym (history-lost (started old n 0) n ∙ ap history_of_past (reverse_push old.journal (Started n 0 old.known))))
-
   ended-logged : (old : Node) (n : ℕ) (x : Xid) → old.own ≡ Some x → length old.slots ≡ 8
-      → IsRedo (commit_record x (record { 0 = old.scn.0 + 1 })) → stood (is_commit x) (reverse old.journal) ≡ false
-      → IsSound asked old → Logged durable waits (reverse old.journal) (parts_of old)
-      → Logged (durable ++ waits ++ commit_record x (record { 0 = old.scn.0 + 1 }) ∷ []) [] (reverse (ended_by old n x).journal) (parts_of (ended_by old n x))
+      → IsRedo (commit_record x (old.scn + 1)) → stood (is_commit x) old.journal ≡ false
+      → IsSound asked old → Logged durable waits old.journal (parts_of old)
+      → Logged (durable ++ waits ++ commit_record x (old.scn + 1) ∷ []) [] (ended_by old n x).journal (parts_of (ended_by old n x))
   ended-logged old n x is eight redo new_x sound logged =
-      rw (
-        reverse_push ((old.journal ++ Marked n x c ∷ []) ++ Committed x c (record { 0 = 0 }) ∷ []) (Acked n x c),
-        reverse_push (old.journal ++ Marked n x c ∷ []) (Committed x c (record { 0 = 0 })),
-        reverse_push old.journal (Marked n x c),
-      )
-      (Logged-committed asked durable waits (reverse old.journal) (parts_of old) (parts_of (ended_by old n x)) n x c redo is refl
+      (Logged-committed asked durable waits old.journal (parts_of old) (parts_of (ended_by old n x)) n x c redo is refl
       new_x refl
       (λ k. wrap_at-ended asked 0 old.slots x.slot k c (let used = (rw is at sound.own_used).0 in omega arith)) sound logged)
     where
       c : Scn
-      c = record { 0 = old.scn.0 + 1 }
+      c = old.scn + 1
 
   -- the session is opened
-  pub IsLogged-opened : (old : Node) (z : ℕ) (i : InstNo) → Logged durable waits (reverse old.journal) (parts_of old)
-      → Logged durable waits (reverse (opened old z i).journal) (parts_of (opened old z i))
+  pub IsLogged-opened : (old : Node) (z : ℕ) (i : InstNo) → Logged durable waits old.journal (parts_of old)
+      → Logged durable waits (opened old z i).journal (parts_of (opened old z i))
   IsLogged-opened old z i logged =
-      rw (reverse_push old.journal (Opened z i)) (Logged-opened durable waits (reverse old.journal) (parts_of old) (parts_of (opened old z i)) z i refl refl refl logged)
+      Logged-opened durable waits old.journal (parts_of old) (parts_of (opened old z i)) z i refl refl refl logged
 
   -- a statement starts
-  pub IsLogged-started : (old : Node) (n z : ℕ) → Logged durable waits (reverse old.journal) (parts_of old)
-      → Logged durable waits (reverse (started old n z).journal) (parts_of (started old n z))
+  pub IsLogged-started : (old : Node) (n z : ℕ) → Logged durable waits old.journal (parts_of old)
+      → Logged durable waits (started old n z).journal (parts_of (started old n z))
   IsLogged-started old n z logged =
-      rw (reverse_push old.journal (Started n z old.known)) (Logged-started durable waits (reverse old.journal) (parts_of old) n z old.known logged)
+      Logged-started durable waits old.journal (parts_of old) n z old.known logged
 
-  -- a get is answered
-  pub IsLogged-got : (old : Node) (n z : ℕ) (row : RowNo) → Logged durable waits (reverse old.journal) (parts_of old)
-      → Logged durable waits (reverse (got old n z row).journal) (parts_of (got old n z row))
-  IsLogged-got old n z row logged =
-      rw (reverse_push (started old n z).journal (Rows n rows))
-      (Logged-rows durable waits (reverse (started old n z).journal) (parts_of old) n rows (IsLogged-started old n z logged))
-    where
-      rows : List (RowNo × Value)
-      rows = listed (value_in old old.known.0) row.0 1
-
-  -- a commit is answered where no transaction is open
-  pub IsLogged-plain : (old : Node) (n z : ℕ) → Logged durable waits (reverse old.journal) (parts_of old)
-      → Logged durable waits (reverse (told (started old n z) (Plain n)).journal) (parts_of (told (started old n z) (Plain n)))
-  IsLogged-plain old n z logged =
-      rw (reverse_push (started old n z).journal (Plain n))
-      (Logged-plain durable waits (reverse (started old n z).journal) (parts_of old) n (IsLogged-started old n z logged))
-
-  new-started : (old : Node) (n : ℕ) (x : Xid) → old.own ≡ Some x → IsProper old → stood (is_commit x) (reverse (started old n 0).journal) ≡ false
-  new-started old n x is proper = rw (reverse_push old.journal (Started n 0 old.known)) (rw is at proper.own_new).1
+  new-started : (old : Node) (n : ℕ) (x : Xid) → old.own ≡ Some x → IsProper old → stood (is_commit x) (started old n 0).journal ≡ false
+  new-started old n x is proper = (rw is at proper.own_new).1
 
   -- a commit of the open transaction is answered, and its record is on the disk with all that waited
   pub IsLogged-commit : (old : Node) (n : ℕ) (x : Xid) → old.own ≡ Some x → length old.slots ≡ 8
-      → IsRedo (commit_record x (record { 0 = old.scn.0 + 1 }))
-      → IsSound asked old → IsProper old → Logged durable waits (reverse old.journal) (parts_of old)
-      → Logged (durable ++ waits ++ commit_record x (record { 0 = old.scn.0 + 1 }) ∷ []) []
-      (reverse (ended_by (started old n 0) n x).journal) (parts_of (ended_by (started old n 0) n x))
+      → IsRedo (commit_record x (old.scn + 1))
+      → IsSound asked old → IsProper old → Logged durable waits old.journal (parts_of old)
+      → Logged (durable ++ waits ++ commit_record x (old.scn + 1) ∷ []) []
+      (ended_by (started old n 0) n x).journal (parts_of (ended_by (started old n 0) n x))
   IsLogged-commit old n x is eight redo sound proper logged =
       ended-logged (started old n 0) n x is eight redo (new-started old n x is proper) (IsSound-started asked old n sound) (IsLogged-started old n 0 logged)
 
   -- what a log tells in which the commit's record is the last
   pub logs-tell-entered : (old : Node) (n : ℕ) (x : Xid) → old.own ≡ Some x → IsSound asked old → IsProper old
-      → Logged durable waits (reverse old.journal) (parts_of old)
-      → log_history ((durable ++ waits ++ commit_record x (record { 0 = old.scn.0 + 1 }) ∷ []) ∷ [] ∷ [] ∷ [] ∷ [] ∷ [] ∷ [] ∷ [] ∷ [])
+      → Logged durable waits old.journal (parts_of old)
+      → log_history ((durable ++ waits ++ commit_record x (old.scn + 1) ∷ []) ∷ [] ∷ [] ∷ [] ∷ [] ∷ [] ∷ [] ∷ [] ∷ [])
       ≡ map line_of_commit (reverse (history (entered (marked (started old n 0) n x) x).journal))
   logs-tell-entered old n x is sound proper logged =
       log_history-of_one (durable ++ waits ++ commit_record x c ∷ []) (history (entered (marked (started old n 0) n x) x).journal)
-      (rw (reverse_push (marked (started old n 0) n x).journal (Committed x c (record { 0 = 0 })), reverse_push (started old n 0).journal (Marked n x c))
-      (lines-committed asked durable waits (reverse (started old n 0).journal) (parts_of old) n x c is refl (new-started old n x is proper)
-      (IsSound-started asked old n sound) (IsLogged-started old n 0 logged)))
-      (Falls-history (reverse (entered (marked (started old n 0) n x) x).journal))
+      (lines-committed asked durable waits (started old n 0).journal (parts_of old) n x c is refl (new-started old n x is proper)
+      (IsSound-started asked old n sound) (IsLogged-started old n 0 logged))
+      (Falls-history (entered (marked (started old n 0) n x) x).journal)
     where
       c : Scn
-      c = record { 0 = old.scn.0 + 1 }
-
-  -- the same after the fault that ends the instance then
-  pub logs-tell-lost-entered : (old : Node) (n : ℕ) (x : Xid) → old.own ≡ Some x → IsSound asked old → IsProper old
-      → Logged durable waits (reverse old.journal) (parts_of old)
-      → log_history ((durable ++ waits ++ commit_record x (record { 0 = old.scn.0 + 1 }) ∷ []) ∷ [] ∷ [] ∷ [] ∷ [] ∷ [] ∷ [] ∷ [] ∷ [])
-      ≡ map line_of_commit (reverse (history (lost (entered (marked (started old n 0) n x) x) n).journal))
-  logs-tell-lost-entered old n x is sound proper logged =
-      logs-tell-entered old n x is sound proper logged
-      ∙ ap (λ (ks : List Commit). map line_of_commit (reverse ks)) (sym (history-lost (entered (marked (started old n 0) n x) x) n))
-
-  -- what a log tells that has some of the records that wait, after a fault in a statement
-  pub logs-tell-lost-started : (old : Node) (n m : ℕ) → IsProper old → Logged durable waits (reverse old.journal) (parts_of old)
-      → log_history ((durable ++ take m waits) ∷ [] ∷ [] ∷ [] ∷ [] ∷ [] ∷ [] ∷ [] ∷ [])
-      ≡ map line_of_commit (reverse (history (lost (started old n 0) n).journal))
-  logs-tell-lost-started old n m proper logged =
-      logs-tell durable waits old m proper logged
-      ∙ ap (λ (ks : List Commit). map line_of_commit (reverse ks))
-      (sym (history-lost (started old n 0) n ∙ ap history_of_past (reverse_push old.journal (Started n 0 old.known))))
-
-  -- the same after a fault behind the mark of a commit
-  pub logs-tell-lost-marked : (old : Node) (n m : ℕ) (x : Xid) → IsProper old → Logged durable waits (reverse old.journal) (parts_of old)
-      → log_history ((durable ++ take m waits) ∷ [] ∷ [] ∷ [] ∷ [] ∷ [] ∷ [] ∷ [] ∷ [])
-      ≡ map line_of_commit (reverse (history (lost (marked (started old n 0) n x) n).journal))
-  logs-tell-lost-marked old n m x proper logged =
-      logs-tell durable waits old m proper logged
-      ∙ ap (λ (ks : List Commit). map line_of_commit (reverse ks))
-      (sym (history-lost (marked (started old n 0) n x) n
-      ∙ (ap history_of_past (reverse_push (started old n 0).journal (Marked n x (record { 0 = old.scn.0 + 1 })))
-      ∙ ap history_of_past (reverse_push old.journal (Started n 0 old.known)))))
+      c = old.scn + 1
 
 -- records that waited came to the disk
 pub Logged-flushed : (durable front back : List Redo) (past : Past) (node : Parts) → Logged durable (front ++ back) past node → Logged (durable ++ front) back past node

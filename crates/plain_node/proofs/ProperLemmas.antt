@@ -1,24 +1,26 @@
 -- Each entry that the node tells keeps commits, starts and locks in order.
 use Rattle.std.proofs.Common.{◌≡◌, ◌∙◌, ℕ, ◌+◌, ◌<◌, ◌≤◌, List, [], ◌∷◌, ◌++◌, Bool, true, false, cond, max, ◌&&◌, ◌||◌, ◌==◌, Option, Some, None, unwrap_or, IsSomeAnd, IfSome, refl, ap, sym, subst, arith, is_some}
-use Rattle.std.specs.Option.{option_map_or, option_map}
+use Rattle.std.specs.Option.{option_map_or}
 use Rattle.std.specs.List.{list_any}
 use Rattle.std.proofs.lemmas.Bool.{eq-eqb, ne_eqb, le-leb}
-use Rattle.rac_nums.specs.declared.names.Xid.{Xid}
-use Rattle.rac_nums.specs.declared.names.RowNo.{RowNo}
-use Rattle.rac_nums.specs.declared.names.Scn.{Scn}
-use Rattle.rac_nums.specs.declared.names.InstNo.{InstNo}
-use Rattle.rac_nums.specs.declared.value.Value.{Value}
-use Rattle.rac_nums.specs.declared.value.Value.TheVariants.{Absent}
-use Rattle.row_model.specs.declared.entry.Entry.{Entry}
-use Rattle.row_model.specs.declared.entry.Entry.TheVariants.{Opened, Started, Rows, Changed, Marked, Committed, Acked, Plain}
-use Rattle.row_model.specs.Past.{Past, start_of, same_xid, home_of, is_up}
-use Rattle.row_model.specs.Standing.{Change, changes_of, standing, is_open, row_of}
-use Rattle.row_model.specs.History.{Commit, history_of_past, changes_up_to, value_by}
-use Rattle.row_model.specs.Sees.{own_changes}
-use Rattle.row_model.specs.Stood.{stood, started_after, is_mark, is_mark_by, is_commit, is_commit_at, is_commit_by, started_up_to, came_up}
-use Rattle.row_model.specs.Good.{Range, changes_in, Replays}
-use Rattle.row_model.proofs.XidLemmas.{same_xid-refl, same_xid-true, both_true}
-use Rattle.row_model.proofs.HistoryLemmas.{UpTo, latest_start, latest_start_after}
+use Rattle.base_types.specs.declared.names.Xid.{Xid}
+use Rattle.base_types.specs.declared.names.RowNo.{RowNo}
+use Rattle.base_types.specs.declared.names.Scn.{Scn}
+use Rattle.base_types.specs.declared.names.InstNo.{InstNo}
+use Rattle.base_types.specs.declared.value.Value.{Value}
+use Rattle.base_types.specs.declared.value.Value.TheVariants.{Absent}
+use Rattle.journal.specs.declared.entry.Entry.{Entry}
+use Rattle.journal.specs.declared.entry.Entry.TheVariants.{Opened, Started, Rows, Changed, Marked, Committed, Acked, Plain}
+use Rattle.journal.specs.Past.{Past, start_of, same_xid, home_of, is_up}
+use Rattle.journal.specs.Standing.{changes_of, standing, is_open, row_of}
+use Rattle.journal.specs.declared.deeds.Change.{Change}
+use Rattle.journal.specs.History.{history, changes_up_to, value_by}
+use Rattle.journal.specs.declared.deeds.Commit.{Commit}
+use Rattle.journal.specs.Sees.{own_changes}
+use Rattle.journal.specs.Stood.{stood, started_after, is_mark, is_mark_by, is_commit, is_commit_at, is_commit_by, started_up_to, came_up}
+use Rattle.journal.specs.Good.{GoodJournal, Range, changes_in, Replays}
+use Rattle.journal.proofs.XidLemmas.{same_xid-refl, same_xid-true, both_true}
+use Rattle.journal.proofs.HistoryLemmas.{UpTo, latest_start, latest_start_after}
 use Rattle.plain_node.specs.Versions.{pending_value, ended_value}
 use Rattle.plain_node.specs.Slots.{wrap_at}
 use Rattle.plain_node.specs.Sound.{Parts, Sound, Proper}
@@ -28,7 +30,7 @@ use Rattle.plain_node.proofs.SoundLemmas.{value-seen, own_changes-changed, histo
 started-after-le : (z : ℕ) (e : Entry) (one all : ℕ) → one ≤ all → started_after z e one ≤ latest_start_after e all
 started-after-le z (Started n y s) one all le = by_test (z == y)
   where
-    by_test : (b : Bool) → cond b (max s.0 one) one ≤ max s.0 all
+    by_test : (b : Bool) → cond b (max s one) one ≤ max s all
     by_test true = omega arith
     by_test false = omega arith
 started-after-le z _ one all le = le
@@ -40,7 +42,7 @@ started_up_to-le z (e ∷ past) = started-after-le z e (started_up_to z past) (l
 -- up to the highest commit the changes are all changes
 changes_up_to-all : (s : ℕ) (commits : List Commit) → UpTo s commits → changes_up_to s commits ≡ changes_in commits
 changes_up_to-all s [] h = refl
-changes_up_to-all s (commit ∷ older) h = rw (le-leb commit.c s h.0) (ap (λ (cs : List Change). commit.changes ++ cs) (changes_up_to-all s older h.1))
+changes_up_to-all s (commit ∷ older) h = rw (le-leb commit.commit_scn s h.0) (ap (λ (cs : List Change). commit.changes ++ cs) (changes_up_to-all s older h.1))
 
 -- older changes replay where all do
 pub Replays-older : (newer older : List Change) → Replays (newer ++ older) → Replays older
@@ -55,8 +57,19 @@ and_false_left : (a b : Bool) → a ≡ false → (a && b) ≡ false
 and_false_left false b p = refl
 and_false_left true b p = (cc)
 
+-- A journal with which the state agrees is good.
+pub good-journal : (asked : ℕ → Option Range) (past : Past) (node : Parts) → Sound asked 0 past node → Proper 0 past node → GoodJournal past
+good-journal asked past node sound proper = record {
+  found = sound.found;
+  commits = proper.commits;
+  acknowledgements = proper.acknowledgements;
+  starts = proper.starts;
+  row_locks = proper.row_locks;
+  replay = Replays-older (own_changes 0 past) (changes_in (history past)) proper.replays;
+}
+
 module _ (asked : ℕ → Option Range) (z : ℕ) where
-  pub Proper-opened : (past : Past) (old now : Parts) (i : InstNo) → i.0 ≡ 0 → now.home ≡ Some i → now.own ≡ old.own → now.known ≡ old.known → now.slots ≡ old.slots
+  pub Proper-opened : (past : Past) (old now : Parts) (i : InstNo) → i ≡ 0 → now.home ≡ Some i → now.own ≡ old.own → now.known ≡ old.known → now.slots ≡ old.slots
       → Proper z past old → Proper z (Opened z i ∷ past) now
   Proper-opened past old now i zero_is home own_is known slots proper =
       record {
@@ -78,7 +91,7 @@ module _ (asked : ℕ → Option Range) (z : ℕ) where
         unrefused = proper.unrefused;
       }
 
-  pub Proper-started : (past : Past) (node : Parts) (n : ℕ) (s : Scn) → s.0 ≡ node.known → is_some node.home ≡ true
+  pub Proper-started : (past : Past) (node : Parts) (n : ℕ) (s : Scn) → s ≡ node.known → is_some node.home ≡ true
       → Sound asked z past node → Proper z past node → Proper z (Started n z s ∷ past) node
   Proper-started past node n s at opened sound proper =
       record {
@@ -100,7 +113,7 @@ module _ (asked : ℕ → Option Range) (z : ℕ) where
         unrefused = proper.unrefused;
       }
     where
-      by_home : (o : Option InstNo) → is_some o ≡ true → home_of z past ≡ option_map (λ i. i.0) o → IfSome o (λ i. i.0 ≡ 0)
+      by_home : (o : Option InstNo) → is_some o ≡ true → home_of z past ≡ o → IfSome o (λ i. i ≡ 0)
           → IsSomeAnd (home_of z past) (λ i. (is_up i past ≡ true) × (came_up z past ≡ false))
       by_home None o h at_home = (cc)
       by_home (Some i) o h at_home = rw (h, at_home) (proper.up, proper.stays)
@@ -149,11 +162,11 @@ module _ (asked : ℕ → Option Range) (z : ℕ) where
 
   -- a change by x, which is the own transaction by then
   pub Proper-changed : (past : Past) (old now : Parts) (n s : ℕ) (x : Xid) (row : RowNo) (found new : Value)
-      → start_of n past ≡ Some (record { session = z; s = s }) → s ≡ old.known
-      → unwrap_or (pending_value row.0 old.pending) (unwrap_or (ended_value s row.0 old.ended) Absent) ≡ found
+      → start_of n past ≡ Some (record { session = z; snapshot = s }) → s ≡ old.known
+      → unwrap_or (pending_value row old.pending) (unwrap_or (ended_value s row old.ended) Absent) ≡ found
       → Sound asked z past old → Proper z past old
       → now.home ≡ old.home → now.known ≡ old.known → now.own ≡ Some x → ((k : ℕ) → wrap_at old.slots k ≤ wrap_at now.slots k)
-      → x.seg.0 ≡ 0 → stood (is_commit x) past ≡ false → ((y : Xid) → is_open y past ≡ true → y ≡ x)
+      → x.seg ≡ 0 → stood (is_commit x) past ≡ false → ((y : Xid) → is_open y past ≡ true → y ≡ x)
       → own_changes z past ≡ changes_of (standing x past)
       → Proper z (Changed n x row found new ∷ past) now
   Proper-changed past old now n s x row found new start at is sound proper home known own_is wraps seg new_x only stand =
@@ -167,20 +180,20 @@ module _ (asked : ℕ → Option Range) (z : ℕ) where
         own_new = rw own_is (seg, new_x);
         above = λ c j later. proper.above c j (omega arith);
         alone = λ y h. own_is ∙ ap (λ (v : Xid). Some v) (sym (by_name y (same_xid y x) refl h));
-        replays = subst (λ (cs : List Change). Replays (cs ++ changes_in (history_of_past past)))
+        replays = subst (λ (cs : List Change). Replays (cs ++ changes_in (history past)))
             (sym (own_changes-changed asked z past n s x row found new start))
-            (subst (λ (cs : List Change). Replays ((record { row = row.0; found = found; new = new } ∷ cs) ++ changes_in (history_of_past past))) stand
-            (sym is ∙ (value-seen asked z past old s row.0 sound ∙ ap (λ (cs : List Change). value_by (own_changes z past ++ cs) row.0) all), proper.replays));
+            (subst (λ (cs : List Change). Replays ((record { row = row; found = found; new = new } ∷ cs) ++ changes_in (history past))) stand
+            (sym is ∙ (value-seen asked z past old s row sound ∙ ap (λ (cs : List Change). value_by (own_changes z past ++ cs) row) all), proper.replays));
         commits = (new_x, proper.commits);
         acknowledgements = (tt, proper.acknowledgements);
         starts = (tt, proper.starts);
-        row_locks = ((λ y h. only y (both_true (is_open y past) (list_any (λ deed. row_of deed == row.0) (standing y past)) h).0), proper.row_locks);
+        row_locks = ((λ y h. only y (both_true (is_open y past) (list_any (λ deed. row_of deed == row) (standing y past)) h).0), proper.row_locks);
         unended = proper.unended;
         unrefused = proper.unrefused;
       }
     where
-      all : changes_up_to s (history_of_past past) ≡ changes_in (history_of_past past)
-      all = changes_up_to-all s (history_of_past past) (rw at sound.commits)
+      all : changes_up_to s (history past) ≡ changes_in (history past)
+      all = changes_up_to-all s (history past) (rw at sound.commits)
 
       by_name : (y : Xid) (b : Bool) → same_xid y x ≡ b → cond b true (is_open y past) ≡ true → y ≡ x
       by_name y true e h = same_xid-true y x e
@@ -188,7 +201,7 @@ module _ (asked : ℕ → Option Range) (z : ℕ) where
 
   -- the own transaction commits
   pub Proper-committed : (past : Past) (old now : Parts) (n : ℕ) (x : Xid) (c : Scn) (i : InstNo)
-      → old.own ≡ Some x → c.0 ≡ old.scn + 1 → i.0 ≡ 0 → now.known ≡ c.0 → now.own ≡ None → now.home ≡ old.home
+      → old.own ≡ Some x → c ≡ old.scn + 1 → i ≡ 0 → now.known ≡ c → now.own ≡ None → now.home ≡ old.home
       → ((k : ℕ) → wrap_at now.slots k ≡ wrap_at old.slots k)
       → Sound asked z past old → Proper z past old → Proper z (Acked n x c ∷ Committed x c i ∷ Marked n x c ∷ past) now
   Proper-committed past old now n x c i own_is next zero_is known none home wraps sound proper =
@@ -200,14 +213,14 @@ module _ (asked : ℕ → Option Range) (z : ℕ) where
         acked = (let le = proper.acked in let le2 = sound.clock in omega arith);
         unused = λ y later. or_false (same_xid y x) (stood (is_commit y) past) (other y later) (proper.unused y (rw wraps at later));
         own_new = rw none tt;
-        above = λ d j later. or_false (d == c.0 && j == i.0) (stood (is_commit_by d j) past)
-            (and_false_left (d == c.0) (j == i.0) (ne_eqb d c.0 (λ e. omega arith))) (proper.above d j (let le2 = sound.clock in omega arith));
+        above = λ d j later. or_false (d == c && j == i) (stood (is_commit_by d j) past)
+            (and_false_left (d == c) (j == i) (ne_eqb d c (λ e. omega arith))) (proper.above d j (let le2 = sound.clock in omega arith));
         alone = λ y h. absurd (closed y h);
-        replays = subst (λ (cs : List Change). Replays (cs ++ changes_in (history_of_past (Acked n x c ∷ Committed x c i ∷ Marked n x c ∷ past))))
+        replays = subst (λ (cs : List Change). Replays (cs ++ changes_in (history (Acked n x c ∷ Committed x c i ∷ Marked n x c ∷ past))))
             (sym (ap (λ (o : Option Xid). option_map_or (λ y. changes_of (standing y past)) o []) (own-committed asked z past n x c i (sound.own_is ∙ own_is))))
             (subst (λ (h : List Commit). Replays (changes_in h)) (sym (history-committed asked z past n x c i old.known sound.commits above))
-            (subst (λ (cs : List Change). Replays (cs ++ changes_in (history_of_past past))) (own_changes-own asked z past x (sound.own_is ∙ own_is)) proper.replays));
-        commits = (tt, ((zero_is ∙ sym own_new.0, marked, own_new.1, proper.above c.0 i.0 above), (own_new.1, proper.commits)));
+            (subst (λ (cs : List Change). Replays (cs ++ changes_in (history past))) (own_changes-own asked z past x (sound.own_is ∙ own_is)) proper.replays));
+        commits = (tt, ((zero_is ∙ sym own_new.0, marked, own_new.1, proper.above c i above), (own_new.1, proper.commits)));
         acknowledgements = ((marked_by, committed), (tt, (tt, proper.acknowledgements)));
         starts = (tt, (tt, (tt, proper.starts)));
         row_locks = (tt, (tt, (tt, proper.row_locks)));
@@ -215,10 +228,10 @@ module _ (asked : ℕ → Option Range) (z : ℕ) where
         unrefused = proper.unrefused;
       }
     where
-      own_new : (x.seg.0 ≡ 0) × (stood (is_commit x) past ≡ false)
+      own_new : (x.seg ≡ 0) × (stood (is_commit x) past ≡ false)
       own_new = rw own_is at proper.own_new
 
-      above : old.known < c.0
+      above : old.known < c
       above = let le = sound.clock in omega arith
 
       used : (x.slot < 8) × (x.wrap ≤ wrap_at old.slots x.slot)
@@ -243,11 +256,11 @@ module _ (asked : ℕ → Option Range) (z : ℕ) where
               let is : x ≡ y = (cc) in
               let yes : same_xid y x ≡ true = subst (λ (v : Xid). same_xid v x ≡ true) is (same_xid-refl x) in (cc)
 
-      marked : stood (is_mark x c.0) (Marked n x c ∷ past) ≡ true
-      marked = rw (same_xid-refl x, eq-eqb c.0 c.0 refl) refl
+      marked : stood (is_mark x c) (Marked n x c ∷ past) ≡ true
+      marked = rw (same_xid-refl x, eq-eqb c c refl) refl
 
-      marked_by : stood (is_mark_by n x c.0) (Committed x c i ∷ Marked n x c ∷ past) ≡ true
-      marked_by = rw (same_xid-refl x, eq-eqb c.0 c.0 refl, eq-eqb n n refl) refl
+      marked_by : stood (is_mark_by n x c) (Committed x c i ∷ Marked n x c ∷ past) ≡ true
+      marked_by = rw (same_xid-refl x, eq-eqb c c refl, eq-eqb n n refl) refl
 
-      committed : stood (is_commit_at x c.0) (Committed x c i ∷ Marked n x c ∷ past) ≡ true
-      committed = rw (same_xid-refl x, eq-eqb c.0 c.0 refl) refl
+      committed : stood (is_commit_at x c) (Committed x c i ∷ Marked n x c ∷ past) ≡ true
+      committed = rw (same_xid-refl x, eq-eqb c c refl) refl

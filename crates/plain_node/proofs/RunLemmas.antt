@@ -1,24 +1,22 @@
 -- What a line leaves of the node's clock.
-use Rattle.std.proofs.Common.{◌≡◌, ◌∙◌, ℕ, ◌+◌, ◌<◌, ◌≤◌, List, [], ◌∷◌, ◌++◌, Option, Some, None, MatchOption, Result, Ok, Err, length, reverse, refl, ap, arith}
+use Rattle.std.proofs.Common.{◌≡◌, ◌∙◌, ℕ, ◌+◌, ◌<◌, ◌≤◌, List, [], ◌∷◌, Option, Some, None, MatchOption, Result, Ok, Err, length, refl, ap, arith}
 use Rattle.std.specs.Prelude.{IfSome, OnOk}
-use Rattle.std.proofs.lemmas.List.Elements.{All-nil, All-push}
-use Rattle.row_model.specs.Good.{changes_in}
-use Rattle.row_model.specs.History.{history}
-use Rattle.row_model.specs.Sees.{own_changes}
+use Rattle.std.proofs.lemmas.List.Elements.{All-nil, All-cons}
 use Rattle.script_text.specs.declared.item.Item.{Item}
 use Rattle.script_text.specs.Asked.{asked}
 use Rattle.script_text.specs.ScriptParts.{ScriptParts}
 use Rattle.plain_node.specs.Lined.{IsRight}
-use Rattle.plain_node.specs.Lost.{IsGoodSoFar}
-use Rattle.plain_node.proofs.ProperLemmas.{Replays-older}
-use Rattle.rac_nums.specs.declared.names.Scn.{Scn}
-use Rattle.row_model.specs.declared.entry.Entry.{Entry}
-use Rattle.row_model.specs.declared.entry.Entry.TheVariants.{Acked, Committed, Marked, Plain, Started}
+use Rattle.plain_node.specs.Good.{GoodRun}
+use Rattle.plain_node.specs.Sound.{parts_of}
+use Rattle.plain_node.proofs.ProperLemmas.{good-journal}
+use Rattle.base_types.specs.declared.names.Scn.{Scn}
+use Rattle.journal.specs.declared.entry.Entry.{Entry}
+use Rattle.journal.specs.declared.entry.Entry.TheVariants.{Acked, Committed, Marked, Plain, Started}
 use Rattle.script_text.specs.Lines.{session_in}
 use Rattle.plain_node.specs.Runs.{IsNamed, IsProper, IsSound}
-use Rattle.rac_nums.specs.declared.names.RowNo.{RowNo}
-use Rattle.rac_nums.specs.declared.names.Xid.{Xid}
-use Rattle.rac_nums.specs.declared.value.Value.{Value}
+use Rattle.base_types.specs.declared.names.RowNo.{RowNo}
+use Rattle.base_types.specs.declared.names.Xid.{Xid}
+use Rattle.base_types.specs.declared.value.Value.{Value}
 use Rattle.plain_node.specs.declared.node.Node.{Node}
 use Rattle.plain_node.specs.Slots.{IsLeastUsed, next_xid}
 use Rattle.plain_node.specs.Steps.{Puts, begun, commit_of, committed, started}
@@ -29,17 +27,17 @@ on_ok_both (Ok t) f a b = f a b
 on_ok_both (Err e) f a b = tt
 
 -- beginning a transaction leaves the clock
-own-scn : (old mid : Node) (x : Xid) (o : Option Xid) → MatchOption o ((k : ℕ) × IsLeastUsed old.slots k × (x ≡ next_xid old.slots k) × (mid ≡ begun old k)) (λ y. (x ≡ y) × (mid ≡ old)) → mid.scn.0 ≡ old.scn.0
-own-scn old mid x None h = ap (λ (node : Node). node.scn.0) h.3
-own-scn old mid x (Some y) h = ap (λ (node : Node). node.scn.0) h.1
+own-scn : (old mid : Node) (x : Xid) (o : Option Xid) → MatchOption o ((k : ℕ) × IsLeastUsed old.slots k × (x ≡ next_xid old.slots k) × (mid ≡ begun old k)) (λ y. (x ≡ y) × (mid ≡ old)) → mid.scn ≡ old.scn
+own-scn old mid x None h = ap (λ (node : Node). node.scn) h.3
+own-scn old mid x (Some y) h = ap (λ (node : Node). node.scn) h.1
 
-pub put-scn : (old now : Node) (n z : ℕ) (row : RowNo) (value : Value) → Puts old n z row value now → now.scn.0 ≡ old.scn.0 + 1
-put-scn old now n z row value puts = ap (λ (node : Node). node.scn.0) puts.3 ∙ ap (λ (k : ℕ). k + 1) (own-scn (started old n z) puts.1 puts.0 old.own puts.2)
+pub put-scn : (old now : Node) (n z : ℕ) (row : RowNo) (value : Value) → Puts old n z row value now → now.scn ≡ old.scn + 1
+put-scn old now n z row value puts = ap (λ (node : Node). node.scn) puts.3 ∙ ap (λ (k : ℕ). k + 1) (own-scn (started old n z) puts.1 puts.0 old.own puts.2)
 
-pub committed-scn : (old : Node) (n z : ℕ) → old.scn.0 ≤ (committed old n z).scn.0
+pub committed-scn : (old : Node) (n z : ℕ) → old.scn ≤ (committed old n z).scn
 committed-scn old n z = by_own old.own
   where
-    by_own : (o : Option Xid) → old.scn.0 ≤ (commit_of (started old n z) n o).scn.0
+    by_own : (o : Option Xid) → old.scn ≤ (commit_of (started old n z) n o).scn
     by_own None = omega arith
     by_own (Some x) = omega arith
 
@@ -51,15 +49,15 @@ pub named-committed : (sessions : ℕ) (node : Node) (n z : ℕ) → z < session
 named-committed sessions node n z below named = by_own node.own
   where
     begun_named : IsNamed sessions (started node n z)
-    begun_named = All-push (IsBelow sessions) node.journal (Started n z node.known) named below
+    begun_named = All-cons (IsBelow sessions) (Started n z node.known) node.journal below named
 
     by_own : (o : Option Xid) → IsNamed sessions (commit_of (started node n z) n o)
-    by_own None = All-push (IsBelow sessions) (started node n z).journal (Plain n) begun_named tt
+    by_own None = All-cons (IsBelow sessions) (Plain n) (started node n z).journal tt begun_named
     by_own (Some x) =
-        let c : Scn = record { 0 = node.scn.0 + 1 } in
-        let first = All-push (IsBelow sessions) (started node n z).journal (Marked n x c) begun_named tt in
-        let second = All-push (IsBelow sessions) ((started node n z).journal ++ Marked n x c ∷ []) (Committed x c (record { 0 = 0 })) first tt in
-        All-push (IsBelow sessions) (((started node n z).journal ++ Marked n x c ∷ []) ++ Committed x c (record { 0 = 0 }) ∷ []) (Acked n x c) second tt
+        let c : Scn = node.scn + 1 in
+        let first = All-cons (IsBelow sessions) (Marked n x c) (started node n z).journal tt begun_named in
+        let second = All-cons (IsBelow sessions) (Committed x c 0) (Marked n x c ∷ (started node n z).journal) tt first in
+        All-cons (IsBelow sessions) (Acked n x c) (Committed x c 0 ∷ Marked n x c ∷ (started node n z).journal) tt second
 
 -- A node that did nothing is right for no lines.
 pub right-new : (parts : ScriptParts) (node : Node) → node.journal ≡ [] → IsSound (asked parts) node → IsProper node → IsRight parts [] node
@@ -71,15 +69,10 @@ right-new parts node journal sound proper = record {
 }
 
 -- The journal of a node that is right is good.
-pub right-good : (parts : ScriptParts) (done : List (ℕ × Item)) (node : Node) → IsRight parts done node → IsGoodSoFar parts node.journal
+pub right-good : (parts : ScriptParts) (done : List (ℕ × Item)) (node : Node) → IsRight parts done node → GoodRun parts node.journal
 right-good parts done node right = record {
   named = right.named;
   lines = right.lined.lines;
   rows = right.sound.rows;
-  found = right.sound.found;
-  commits = right.proper.commits;
-  acknowledgements = right.proper.acknowledgements;
-  starts = right.proper.starts;
-  row_locks = right.proper.row_locks;
-  replay = Replays-older (own_changes 0 (reverse node.journal)) (changes_in (history node.journal)) right.proper.replays;
+  good = good-journal (asked parts) node.journal (parts_of node) right.sound right.proper;
 }

@@ -3,16 +3,16 @@ use Rattle.std.proofs.Common.{◌≡◌, ◌∙◌, ◌≢◌, ℕ, ◌+◌, ◌
 use Rattle.std.specs.Option.{option_map_or}
 use Rattle.std.proofs.lemmas.List.{reverse-append, map-append, get_or-set_same, get_or-set_other}
 use Rattle.std.proofs.lemmas.Bool.Decides.{eqb_tells}
-use Rattle.rac_nums.specs.declared.names.Xid.{Xid}
-use Rattle.rac_nums.specs.declared.names.RowNo.{RowNo}
-use Rattle.rac_nums.specs.declared.names.Scn.{Scn}
-use Rattle.rac_nums.specs.declared.value.Value.{Value}
-use Rattle.row_model.specs.declared.entry.Entry.{Entry}
-use Rattle.row_model.specs.declared.entry.Entry.TheVariants.{Opened, Started, Changed, Marked, Committed, Acked, Plain}
-use Rattle.row_model.specs.Past.{start_of}
-use Rattle.row_model.specs.Standing.{changes_of, standing}
-use Rattle.row_model.specs.Sees.{own, own_changes}
-use Rattle.row_model.specs.Good.{Range}
+use Rattle.base_types.specs.declared.names.Xid.{Xid}
+use Rattle.base_types.specs.declared.names.RowNo.{RowNo}
+use Rattle.base_types.specs.declared.names.Scn.{Scn}
+use Rattle.base_types.specs.declared.value.Value.{Value}
+use Rattle.journal.specs.declared.entry.Entry.{Entry}
+use Rattle.journal.specs.declared.entry.Entry.TheVariants.{Started, Plain}
+use Rattle.journal.specs.Past.{start_of}
+use Rattle.journal.specs.Standing.{changes_of, standing}
+use Rattle.journal.specs.Sees.{own, own_changes}
+use Rattle.journal.specs.Good.{Range}
 use Rattle.plain_node.specs.declared.node.Node.{Node}
 use Rattle.plain_node.specs.declared.slots.SlotUse.{SlotUse}
 use Rattle.plain_node.specs.declared.versions.Pending.{Pending}
@@ -20,10 +20,10 @@ use Rattle.plain_node.specs.declared.versions.Version.{Version}
 use Rattle.plain_node.specs.Slots.{wrap_at, never, next_xid, IsLeastUsed}
 use Rattle.plain_node.specs.Steps.{told, opened, started, got, value_in, begun, changed, Puts, version_at, ended_by, commit_of, committed}
 use Rattle.plain_node.specs.Sound.{Sound, Proper, parts_of, as_pending}
-use Rattle.row_model.specs.Stood.{stood, is_commit}
-use Rattle.row_model.specs.Past.{Past}
-use Rattle.row_model.specs.Standing.{is_open}
-use Rattle.rac_nums.specs.declared.names.InstNo.{InstNo}
+use Rattle.journal.specs.Stood.{stood, is_commit}
+use Rattle.journal.specs.Past.{Past}
+use Rattle.journal.specs.Standing.{is_open}
+use Rattle.base_types.specs.declared.names.InstNo.{InstNo}
 use Rattle.plain_node.proofs.ProperLemmas.{Proper-opened, Proper-started, Proper-rows, Proper-plain, Proper-changed, Proper-committed}
 use Rattle.plain_node.specs.Runs.{IsSound, IsProper}
 use Rattle.plain_node.proofs.SoundLemmas.{Sound-plain, Sound-started, start_of-told, Sound-rows, changed as Sound-changed, Sound-committed, wrap_at-ended, own_changes-own}
@@ -33,20 +33,20 @@ reverse_push xs x = reverse-append xs (x ∷ [])
 
 module _ (asked : ℕ → Option Range) where
   -- an entry that agrees with the state is told
-  pub IsSound-told : (node : Node) (e : Entry) → Sound asked 0 (e ∷ reverse node.journal) (parts_of node) → IsSound asked (told node e)
-  IsSound-told node e sound = rw (reverse_push node.journal e) sound
+  pub IsSound-told : (node : Node) (e : Entry) → Sound asked 0 (e ∷ node.journal) (parts_of node) → IsSound asked (told node e)
+  IsSound-told node e sound = sound
 
   pub IsSound-started : (node : Node) (n : ℕ) → IsSound asked node → IsSound asked (started node n 0)
   IsSound-started node n sound =
-      IsSound-told node (Started n 0 node.known) (Sound-started asked 0 (reverse node.journal) (parts_of node) n node.known refl sound)
+      IsSound-told node (Started n 0 node.known) (Sound-started asked 0 node.journal (parts_of node) n node.known refl sound)
 
-  pub start-told : (node : Node) (n : ℕ) → start_of n (reverse (started node n 0).journal) ≡ Some (record { session = 0; s = node.known.0 })
-  start-told node n = rw (reverse_push node.journal (Started n 0 node.known)) (start_of-told asked 0 (reverse node.journal) n node.known)
+  pub start-told : (node : Node) (n : ℕ) → start_of n (started node n 0).journal ≡ Some (record { session = 0; snapshot = node.known })
+  start-told node n = start_of-told asked 0 node.journal n node.known
 
-  pub IsSound-got : (node : Node) (n : ℕ) (row : RowNo) → asked n ≡ Some (record { first = row.0; count = 1 }) → IsSound asked node → IsSound asked (got node n 0 row)
+  pub IsSound-got : (node : Node) (n : ℕ) (row : RowNo) → asked n ≡ Some (record { first = row; count = 1 }) → IsSound asked node → IsSound asked (got node n 0 row)
   IsSound-got node n row asks sound =
       IsSound-told (started node n 0) _
-      (Sound-rows asked 0 (reverse (started node n 0).journal) (parts_of node) n node.known.0 row (value_in node node.known.0 row.0) asks
+      (Sound-rows asked 0 (started node n 0).journal (parts_of node) n node.known row (value_in node node.known row) asks
       (start-told node n) refl (IsSound-started node n sound))
 
   -- a slot that was taken was taken once more
@@ -68,28 +68,28 @@ module _ (asked : ℕ → Option Range) where
   pub pending-none : (node : Node) → node.own ≡ None → IsSound asked node → [] ≡ reverse node.pending
   pending-none node none sound = rw (sound.own_is ∙ none) at sound.pending
 
-  pending-own : (node : Node) (x : Xid) → node.own ≡ Some x → IsSound asked node → map as_pending (changes_of (standing x (reverse node.journal))) ≡ reverse node.pending
+  pending-own : (node : Node) (x : Xid) → node.own ≡ Some x → IsSound asked node → map as_pending (changes_of (standing x node.journal)) ≡ reverse node.pending
   pending-own node x is sound =
-      ap (map as_pending) (sym (own_changes-own asked 0 (reverse node.journal) x (sound.own_is ∙ is))) ∙ sound.pending
+      ap (map as_pending) (sym (own_changes-own asked 0 node.journal x (sound.own_is ∙ is))) ∙ sound.pending
 
   -- a change by the transaction x, which is the own one by then
   change-told : (old mid : Node) (n : ℕ) (x : Xid) (row : RowNo) (value : Value)
       → IsSound asked (started old n 0)
       → mid.journal ≡ (started old n 0).journal → mid.scn ≡ old.scn → mid.known ≡ old.known → mid.ended ≡ old.ended → mid.pending ≡ old.pending → mid.own ≡ Some x
-      → map as_pending (changes_of (standing x (reverse (started old n 0).journal))) ≡ reverse old.pending
+      → map as_pending (changes_of (standing x (started old n 0).journal)) ≡ reverse old.pending
       → ((k : ℕ) → wrap_at old.slots k ≤ wrap_at mid.slots k)
       → (x.slot < 8) × (x.wrap ≤ wrap_at mid.slots x.slot)
-      → IsSound asked (changed mid n x row (value_in old old.known.0 row.0) value)
+      → IsSound asked (changed mid n x row (value_in old old.known row) value)
   change-told old mid n x row value sound journal scn known ended pending own_is stand wraps used =
-      rw (journal, reverse_push (started old n 0).journal (Changed n x row (value_in old old.known.0 row.0) value))
-      (Sound-changed asked 0 (reverse (started old n 0).journal) (parts_of (started old n 0)) (parts_of (changed mid n x row (value_in old old.known.0 row.0) value))
-      n old.known.0 x row (value_in old old.known.0 row.0) value (start-told old n) refl sound
-      (ap (λ (s : Scn). s.0) known) (let e = ap (λ (s : Scn). s.0) scn in omega arith) (ap reverse ended) own_is
+      rw journal
+      (Sound-changed asked 0 (started old n 0).journal (parts_of (started old n 0)) (parts_of (changed mid n x row (value_in old old.known row) value))
+      n old.known x row (value_in old old.known row) value (start-told old n) refl sound
+      known (omega (arith, scn)) (ap reverse ended) own_is
       (rw (pending, reverse_push old.pending (record { row = row; value = value })) refl) stand wraps used)
 
   -- the transaction of a put is the open one
   put-open : (old mid : Node) (n : ℕ) (x : Xid) (row : RowNo) (value : Value) (y : Xid) → old.own ≡ Some y → x ≡ y → mid ≡ started old n 0
-      → IsSound asked (started old n 0) → IsSound asked (changed mid n x row (value_in old old.known.0 row.0) value)
+      → IsSound asked (started old n 0) → IsSound asked (changed mid n x row (value_in old old.known row) value)
   put-open old mid n x row value y is same mid_is sound =
       rw (same, mid_is) (change-told old (started old n 0) n y row value sound refl refl refl refl refl is
       (pending-own (started old n 0) y is sound) (λ k. omega arith) (rw is at sound.own_used))
@@ -97,7 +97,7 @@ module _ (asked : ℕ → Option Range) where
   -- the transaction of a put began with it
   put-first : (old mid : Node) (n : ℕ) (x : Xid) (row : RowNo) (value : Value) (k : ℕ) → old.own ≡ None → length old.slots ≡ 8 → k < length old.slots
       → x ≡ next_xid old.slots k → mid ≡ begun (started old n 0) k
-      → IsSound asked (started old n 0) → IsSound asked (changed mid n x row (value_in old old.known.0 row.0) value)
+      → IsSound asked (started old n 0) → IsSound asked (changed mid n x row (value_in old old.known row) value)
   put-first old mid n x row value k is eight within x_is mid_is sound =
       rw (x_is, mid_is) (change-told old (begun (started old n 0) k) n (next_xid old.slots k) row value sound refl refl refl refl refl refl
       (rw (sound.fresh (next_xid old.slots k) (omega arith)) (pending-none (started old n 0) is sound))
@@ -115,7 +115,7 @@ module _ (asked : ℕ → Option Range) where
 
       by_own : (o : Option Xid) → old.own ≡ o
           → MatchOption o ((k : ℕ) × IsLeastUsed old.slots k × (x ≡ next_xid old.slots k) × (mid ≡ begun (started old n 0) k)) (λ y. (x ≡ y) × (mid ≡ started old n 0))
-          → IsSound asked (changed mid n x row (value_in old old.known.0 row.0) value)
+          → IsSound asked (changed mid n x row (value_in old old.known row) value)
       by_own None is h = put-first old mid n x row value h.0 is eight h.1.within h.2 h.3 (IsSound-started old n sound)
       by_own (Some y) is h = put-open old mid n x row value y is h.0 h.1 (IsSound-started old n sound)
 
@@ -128,69 +128,63 @@ module _ (asked : ℕ → Option Range) where
 
   pub IsSound-ended : (old : Node) (n : ℕ) (x : Xid) → length old.slots ≡ 8 → x.slot < 8 → old.own ≡ Some x → IsSound asked old → IsSound asked (ended_by old n x)
   IsSound-ended old n x eight within is sound =
-      rw (
-        reverse_push ((old.journal ++ Marked n x c ∷ []) ++ Committed x c (record { 0 = 0 }) ∷ []) (Acked n x c),
-        reverse_push (old.journal ++ Marked n x c ∷ []) (Committed x c (record { 0 = 0 })),
-        reverse_push old.journal (Marked n x c),
-      )
-      (Sound-committed asked 0 (reverse old.journal) (parts_of old) (parts_of (ended_by old n x)) n x c (record { 0 = 0 })
+      (Sound-committed asked 0 old.journal (parts_of old) (parts_of (ended_by old n x)) n x c 0
       is refl refl refl refl refl
       (reverse-append old.ended (map (version_at c) old.pending) ∙ ap (λ (vs : List Version). vs ++ reverse old.ended) (reverse_map c old.pending))
       (λ k. wrap_at-ended asked 0 old.slots x.slot k c (omega arith)) sound)
     where
       c : Scn
-      c = record { 0 = old.scn.0 + 1 }
+      c = old.scn + 1
 
   pub IsSound-committed : (old : Node) (n : ℕ) → length old.slots ≡ 8 → IsSound asked old → IsSound asked (committed old n 0)
   IsSound-committed old n eight sound = by_own old.own refl
     where
       by_own : (o : Option Xid) → old.own ≡ o → IsSound asked (commit_of (started old n 0) n o)
-      by_own None is = IsSound-told (started old n 0) (Plain n) (Sound-plain asked 0 (reverse (started old n 0).journal) (parts_of old) n (IsSound-started old n sound))
+      by_own None is = IsSound-told (started old n 0) (Plain n) (Sound-plain asked 0 (started old n 0).journal (parts_of old) n (IsSound-started old n sound))
       by_own (Some x) is = IsSound-ended (started old n 0) n x eight (rw is at sound.own_used).0 is (IsSound-started old n sound)
 
-  IsProper-told : (node : Node) (e : Entry) → Proper 0 (e ∷ reverse node.journal) (parts_of node) → IsProper (told node e)
-  IsProper-told node e proper = rw (reverse_push node.journal e) proper
+  IsProper-told : (node : Node) (e : Entry) → Proper 0 (e ∷ node.journal) (parts_of node) → IsProper (told node e)
+  IsProper-told node e proper = proper
 
-  pub IsProper-opened : (node : Node) (i : InstNo) → i.0 ≡ 0 → IsProper node → IsProper (opened node 0 i)
+  pub IsProper-opened : (node : Node) (i : InstNo) → i ≡ 0 → IsProper node → IsProper (opened node 0 i)
   IsProper-opened node i zero_is proper =
-      rw (reverse_push node.journal (Opened 0 i))
-      (Proper-opened asked 0 (reverse node.journal) (parts_of node) (parts_of (opened node 0 i)) i zero_is refl refl refl refl proper)
+      (Proper-opened asked 0 node.journal (parts_of node) (parts_of (opened node 0 i)) i zero_is refl refl refl refl proper)
 
   pub IsProper-started : (node : Node) (n : ℕ) → is_some node.home ≡ true → IsSound asked node → IsProper node → IsProper (started node n 0)
   IsProper-started node n home sound proper =
-      IsProper-told node (Started n 0 node.known) (Proper-started asked 0 (reverse node.journal) (parts_of node) n node.known refl home sound proper)
+      IsProper-told node (Started n 0 node.known) (Proper-started asked 0 node.journal (parts_of node) n node.known refl home sound proper)
 
   pub IsProper-got : (node : Node) (n : ℕ) (row : RowNo) → is_some node.home ≡ true → IsSound asked node → IsProper node → IsProper (got node n 0 row)
   IsProper-got node n row home sound proper =
-      IsProper-told (started node n 0) _ (Proper-rows asked 0 (reverse (started node n 0).journal) (parts_of node) n _ (IsProper-started node n home sound proper))
+      IsProper-told (started node n 0) _ (Proper-rows asked 0 (started node n 0).journal (parts_of node) n _ (IsProper-started node n home sound proper))
 
   -- a change by the transaction x, which is the own one by then
   proper-change : (old mid : Node) (n : ℕ) (x : Xid) (row : RowNo) (value : Value)
       → IsSound asked (started old n 0) → IsProper (started old n 0)
       → mid.journal ≡ (started old n 0).journal → mid.known ≡ old.known → mid.home ≡ old.home → mid.own ≡ Some x
       → ((k : ℕ) → wrap_at old.slots k ≤ wrap_at mid.slots k)
-      → x.seg.0 ≡ 0 → stood (is_commit x) (reverse (started old n 0).journal) ≡ false
-      → ((y : Xid) → is_open y (reverse (started old n 0).journal) ≡ true → y ≡ x)
-      → own_changes 0 (reverse (started old n 0).journal) ≡ changes_of (standing x (reverse (started old n 0).journal))
-      → IsProper (changed mid n x row (value_in old old.known.0 row.0) value)
+      → x.seg ≡ 0 → stood (is_commit x) (started old n 0).journal ≡ false
+      → ((y : Xid) → is_open y (started old n 0).journal ≡ true → y ≡ x)
+      → own_changes 0 (started old n 0).journal ≡ changes_of (standing x (started old n 0).journal)
+      → IsProper (changed mid n x row (value_in old old.known row) value)
   proper-change old mid n x row value sound proper journal known home own_is wraps seg new_x only stand =
-      rw (journal, reverse_push (started old n 0).journal (Changed n x row (value_in old old.known.0 row.0) value))
-      (Proper-changed asked 0 (reverse (started old n 0).journal) (parts_of (started old n 0)) (parts_of (changed mid n x row (value_in old old.known.0 row.0) value))
-      n old.known.0 x row (value_in old old.known.0 row.0) value (start-told old n) refl refl sound proper
-      home (ap (λ (s : Scn). s.0) known) own_is wraps seg new_x only stand)
+      rw journal
+      (Proper-changed asked 0 (started old n 0).journal (parts_of (started old n 0)) (parts_of (changed mid n x row (value_in old old.known row) value))
+      n old.known x row (value_in old old.known row) value (start-told old n) refl refl sound proper
+      home known own_is wraps seg new_x only stand)
 
   some_is : (x y : Xid) → ◌≡◌ {A = Option Xid} (Some x) (Some y) → y ≡ x
   some_is x y e = (cc)
 
   proper-open : (old mid : Node) (n : ℕ) (x : Xid) (row : RowNo) (value : Value) (y : Xid) → old.own ≡ Some y → x ≡ y → mid ≡ started old n 0
-      → IsSound asked (started old n 0) → IsProper (started old n 0) → IsProper (changed mid n x row (value_in old old.known.0 row.0) value)
+      → IsSound asked (started old n 0) → IsProper (started old n 0) → IsProper (changed mid n x row (value_in old old.known row) value)
   proper-open old mid n x row value y is same mid_is sound proper =
       rw (same, mid_is) (proper-change old (started old n 0) n y row value sound proper refl refl refl is (λ k. omega arith)
       new_y.0 new_y.1
       (λ v h. some_is y v (sym is ∙ proper.alone v h))
-      (own_changes-own asked 0 (reverse (started old n 0).journal) y (sound.own_is ∙ is)))
+      (own_changes-own asked 0 (started old n 0).journal y (sound.own_is ∙ is)))
     where
-      new_y : (y.seg.0 ≡ 0) × (stood (is_commit y) (reverse (started old n 0).journal) ≡ false)
+      new_y : (y.seg ≡ 0) × (stood (is_commit y) (started old n 0).journal ≡ false)
       new_y = rw is at proper.own_new
 
   own-none : (past : Past) → own 0 past ≡ None → own_changes 0 past ≡ []
@@ -198,20 +192,20 @@ module _ (asked : ℕ → Option Range) where
 
   proper-first : (old mid : Node) (n : ℕ) (x : Xid) (row : RowNo) (value : Value) (k : ℕ) → old.own ≡ None → k < length old.slots
       → x ≡ next_xid old.slots k → mid ≡ begun (started old n 0) k
-      → IsSound asked (started old n 0) → IsProper (started old n 0) → IsProper (changed mid n x row (value_in old old.known.0 row.0) value)
+      → IsSound asked (started old n 0) → IsProper (started old n 0) → IsProper (changed mid n x row (value_in old old.known row) value)
   proper-first old mid n x row value k is within x_is mid_is sound proper =
       rw (x_is, mid_is) (proper-change old (begun (started old n 0) k) n (next_xid old.slots k) row value sound proper refl refl refl refl
       (λ j. wrap_at-begun (started old n 0) k j within) refl
       (proper.unused (next_xid old.slots k) (omega arith))
       (λ v h. absurd (none_some v (sym is ∙ proper.alone v h)))
-      (own-none (reverse (started old n 0).journal) (sound.own_is ∙ is) ∙ sym (ap changes_of (sound.fresh (next_xid old.slots k) (omega arith)))))
+      (own-none (started old n 0).journal (sound.own_is ∙ is) ∙ sym (ap changes_of (sound.fresh (next_xid old.slots k) (omega arith)))))
     where
       none_some : (v : Xid) → ◌≡◌ {A = Option Xid} None (Some v) → ⊥
       none_some v e = (cc)
 
   proper-own : (old mid : Node) (n : ℕ) (x : Xid) (row : RowNo) (value : Value) (o : Option Xid) → old.own ≡ o
       → MatchOption o ((k : ℕ) × IsLeastUsed old.slots k × (x ≡ next_xid old.slots k) × (mid ≡ begun (started old n 0) k)) (λ y. (x ≡ y) × (mid ≡ started old n 0))
-      → IsSound asked (started old n 0) → IsProper (started old n 0) → IsProper (changed mid n x row (value_in old old.known.0 row.0) value)
+      → IsSound asked (started old n 0) → IsProper (started old n 0) → IsProper (changed mid n x row (value_in old old.known row) value)
   proper-own old mid n x row value None is h sound proper = proper-first old mid n x row value h.0 is h.1.within h.2 h.3 sound proper
   proper-own old mid n x row value (Some y) is h sound proper = proper-open old mid n x row value y is h.0 h.1 sound proper
 
@@ -221,21 +215,16 @@ module _ (asked : ℕ → Option Range) where
 
   IsProper-ended : (old : Node) (n : ℕ) (x : Xid) → length old.slots ≡ 8 → x.slot < 8 → old.own ≡ Some x → IsSound asked old → IsProper old → IsProper (ended_by old n x)
   IsProper-ended old n x eight within is sound proper =
-      rw (
-        reverse_push ((old.journal ++ Marked n x c ∷ []) ++ Committed x c (record { 0 = 0 }) ∷ []) (Acked n x c),
-        reverse_push (old.journal ++ Marked n x c ∷ []) (Committed x c (record { 0 = 0 })),
-        reverse_push old.journal (Marked n x c),
-      )
-      (Proper-committed asked 0 (reverse old.journal) (parts_of old) (parts_of (ended_by old n x)) n x c (record { 0 = 0 })
+      (Proper-committed asked 0 old.journal (parts_of old) (parts_of (ended_by old n x)) n x c 0
       is refl refl refl refl refl
       (λ k. wrap_at-ended asked 0 old.slots x.slot k c (omega arith)) sound proper)
     where
       c : Scn
-      c = record { 0 = old.scn.0 + 1 }
+      c = old.scn + 1
 
   pub IsProper-committed : (old : Node) (n : ℕ) → length old.slots ≡ 8 → is_some old.home ≡ true → IsSound asked old → IsProper old → IsProper (committed old n 0)
   IsProper-committed old n eight home sound proper = by_own old.own refl
     where
       by_own : (o : Option Xid) → old.own ≡ o → IsProper (commit_of (started old n 0) n o)
-      by_own None is = IsProper-told (started old n 0) (Plain n) (Proper-plain asked 0 (reverse (started old n 0).journal) (parts_of old) n (IsProper-started old n home sound proper))
+      by_own None is = IsProper-told (started old n 0) (Plain n) (Proper-plain asked 0 (started old n 0).journal (parts_of old) n (IsProper-started old n home sound proper))
       by_own (Some x) is = IsProper-ended (started old n 0) n x eight (rw is at sound.own_used).0 is (IsSound-started old n sound) (IsProper-started old n home sound proper)

@@ -1,12 +1,12 @@
 -- The ends of instances that a journal tells, and why statements were refused.
 use Rattle.std.specs.Prelude.{List, [], ◌∷◌, Bool, false, Option, None, Some}
 use Rattle.std.specs.List.{filter_map}
-use Rattle.rac_nums.specs.declared.names.InstNo.{InstNo}
-use Rattle.row_model.specs.declared.cause.Cause.{Cause}
-use Rattle.row_model.specs.declared.cause.Cause.TheVariants.{Lost}
-use Rattle.row_model.specs.declared.entry.Entry.{Entry}
-use Rattle.row_model.specs.declared.entry.Entry.TheVariants.{Ended, Refused}
-use Rattle.row_model.specs.Past.{Past}
+use Rattle.base_types.specs.declared.names.InstNo.{InstNo}
+use Rattle.journal.specs.declared.cause.Cause.{Cause}
+use Rattle.journal.specs.declared.cause.Cause.TheVariants.{Lost}
+use Rattle.journal.specs.declared.entry.Entry.{Entry}
+use Rattle.journal.specs.declared.entry.Entry.TheVariants.{Ended, Refused}
+use Rattle.journal.specs.Past.{Past}
 
 -- an instance that an entry ends, and whether a bad block ended it
 abbrev pub end_by : Entry → Option (InstNo × Bool)
@@ -19,7 +19,7 @@ ends_in past = filter_map end_by past
 
 -- the end of the one instance by a fault of the disk
 abbrev pub fault_end : List (InstNo × Bool)
-fault_end = (record { 0 = 0 }, false) ∷ []
+fault_end = (0, false) ∷ []
 
 -- why an entry refuses a statement
 abbrev pub cause_by : Entry → Option Cause

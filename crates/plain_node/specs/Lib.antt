@@ -6,6 +6,7 @@ pub mod Runs
 pub mod Lined
 pub mod Logged
 pub mod Ends
+pub mod Good
 pub mod Lost
 pub mod Engine
 pub mod RedoSize

@@ -1,7 +1,7 @@
 -- What the lines that were run have to do with the journal so far.
-use Rattle.std.specs.Prelude.{◌≡◌, ℕ, ◌<◌, ◌≤◌, List, [], ◌∷◌, ◌++◌, reverse, length, Some, false}
-use Rattle.rac_nums.specs.declared.names.Xid.{Xid}
-use Rattle.row_model.specs.Past.{Past, Each}
+use Rattle.std.specs.Prelude.{◌≡◌, ℕ, ◌<◌, ◌≤◌, List, [], ◌∷◌, ◌++◌, length, Some, false}
+use Rattle.base_types.specs.declared.names.Xid.{Xid}
+use Rattle.journal.specs.Past.{Past, Each}
 use Rattle.script_text.specs.declared.item.Item.{Item}
 use Rattle.script_text.specs.declared.item.Item.TheVariants.{Session}
 use Rattle.script_text.specs.declared.item.Item.TheVariants.{Stmt as Statement}
@@ -24,7 +24,7 @@ pub record Lined (parts : ScriptParts) (done : List (ℕ × Item)) (last : ℕ) 
   pub unended : (x : Xid) → wrap_at slots x.slot < x.wrap → is_over x past ≡ false
 
 abbrev pub IsLined : ScriptParts → List (ℕ × Item) → ℕ → Node → Type 0
-IsLined parts done last node = Lined parts done last (reverse node.journal) node.slots
+IsLined parts done last node = Lined parts done last node.journal node.slots
 
 -- the number of the last of these lines, or what was there before without one
 abbrev pub last_line : ℕ → List (ℕ × Item) → ℕ

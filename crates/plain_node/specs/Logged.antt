@@ -1,23 +1,24 @@
 -- What the redo records that the node made have to do with its state and its journal.
 use Rattle.std.specs.Prelude.{◌≡◌, ◌<◌, List, [], ◌++◌, reverse, map, false, IfSome, Some}
 use Rattle.std.specs.List.{filter_map, AllByRecursion}
-use Rattle.rac_nums.specs.declared.names.RowNo.{RowNo}
-use Rattle.rac_nums.specs.declared.names.Xid.{Xid}
-use Rattle.rac_nums.specs.declared.redo.Redo.{Redo}
-use Rattle.rac_nums.specs.declared.value.Value.{Value}
+use Rattle.base_types.specs.declared.names.RowNo.{RowNo}
+use Rattle.base_types.specs.declared.names.Xid.{Xid}
+use Rattle.redo_types.specs.declared.redo.Redo.{Redo}
+use Rattle.base_types.specs.declared.value.Value.{Value}
 use Rattle.redo_record.specs.Redo.{IsRedo}
-use Rattle.log_table.specs.declared.line.HistoryLine.{HistoryLine}
-use Rattle.log_table.specs.LogHistory.{changes_in, is_commit, is_step_back, line_of}
-use Rattle.row_model.specs.History.{Commit, history_of_past}
-use Rattle.row_model.specs.Past.{Past}
-use Rattle.row_model.specs.Standing.{Change}
+use Rattle.log_history.specs.declared.line.HistoryLine.{HistoryLine}
+use Rattle.log_history.specs.LogHistory.{changes_in, is_commit, is_step_back, line_of}
+use Rattle.journal.specs.History.{history}
+use Rattle.journal.specs.declared.deeds.Commit.{Commit}
+use Rattle.journal.specs.Past.{Past}
+use Rattle.journal.specs.declared.deeds.Change.{Change}
 use Rattle.plain_node.specs.declared.versions.Pending.{Pending}
 use Rattle.plain_node.specs.Slots.{wrap_at}
 use Rattle.plain_node.specs.Sound.{Parts}
 
 -- a change without what it found, and a pending one, as a row and what it holds
 abbrev pub pair_of : Change → RowNo × Value
-pair_of change = (record { 0 = change.row }, change.new)
+pair_of change = (change.row, change.new)
 
 abbrev pub pair_in : Pending → RowNo × Value
 pair_in change = (change.row, change.value)
@@ -25,7 +26,7 @@ pair_in change = (change.row, change.value)
 -- a commit of a journal's history as the redo logs tell it
 abbrev pub line_of_commit : Commit → HistoryLine
 line_of_commit commit =
-    record { c = record { 0 = commit.c }; inst = record { 0 = commit.inst }; xid = commit.xid; changes = reverse (map pair_of commit.changes) }
+    record { commit_scn = commit.commit_scn; inst = commit.inst; xid = commit.xid; changes = reverse (map pair_of commit.changes) }
 
 -- the lines that the Commit records among the first thread's records give
 abbrev pub lines_in : List Redo → List HistoryLine
@@ -39,7 +40,7 @@ WaitsFor node r = (is_commit r.kind ≡ false) × (node.own ≡ Some r.xid)
 -- the node has pending. No transaction that the slots haven't given has a record.
 pub record Logged (durable waits : List Redo) (past : Past) (node : Parts) : Type 0 where
   pub each : AllByRecursion IsRedo (durable ++ waits)
-  pub lines : lines_in (durable ++ waits) ≡ map line_of_commit (reverse (history_of_past past))
+  pub lines : lines_in (durable ++ waits) ≡ map line_of_commit (reverse (history past))
   pub own : IfSome node.own (λ x. changes_in (durable ++ waits) x ≡ reverse (map pair_in node.pending))
   pub unused : (x : Xid) → wrap_at node.slots x.slot < x.wrap → changes_in (durable ++ waits) x ≡ []
   pub waiting : AllByRecursion (WaitsFor node) waits

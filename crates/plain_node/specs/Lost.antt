@@ -1,46 +1,31 @@
 -- What is left of the node where a fault of the disk ended it in a statement.
-use Rattle.std.specs.Prelude.{ℕ, ◌+◌, ◌<◌, List, [], ◌∷◌, ◌++◌, length, reverse, All, IfSome, false, ◌≡◌}
-use Rattle.rac_nums.specs.declared.names.Xid.{Xid}
-use Rattle.row_model.specs.declared.cause.Cause.TheVariants.{Lost}
-use Rattle.row_model.specs.declared.entry.Entry.{Entry}
-use Rattle.row_model.specs.declared.entry.Entry.TheVariants.{Committed, Ended, Marked, Refused}
-use Rattle.row_model.specs.Good.{GoodRows, GoodFound, GoodCommits, GoodAcknowledgements, GoodStarts, GoodRowLocks, GoodReplay}
-use Rattle.script_text.specs.Asked.{asked}
-use Rattle.script_text.specs.GoodLines.{GoodLines}
-use Rattle.script_text.specs.Lines.{session_in}
+use Rattle.std.specs.Prelude.{ℕ, ◌+◌, ◌∷◌, false, ◌≡◌}
+use Rattle.base_types.specs.declared.names.Xid.{Xid}
+use Rattle.journal.specs.declared.cause.Cause.TheVariants.{Lost}
+use Rattle.journal.specs.declared.entry.Entry.TheVariants.{Committed, Ended, Marked, Refused}
+use Rattle.journal.specs.Past.{Past}
 use Rattle.script_text.specs.ScriptParts.{ScriptParts}
 use Rattle.plain_node.specs.declared.node.Node.{Node}
 use Rattle.plain_node.specs.Ends.{causes_in, ends_in, fault_cause, fault_end}
+use Rattle.plain_node.specs.Good.{GoodRun}
 use Rattle.plain_node.specs.Steps.{told}
 
 -- the transaction was marked at the next SCN
 abbrev pub marked : Node → ℕ → Xid → Node
-marked node n x = let c = node.scn.0 + 1 in
-    record node { scn = record { 0 = c }; journal = node.journal ++ Marked n x (record { 0 = c }) ∷ [] }
+marked node n x = let c = node.scn + 1 in
+    record node { scn = c; journal = Marked n x c ∷ node.journal }
 
 -- its commit record reached the disk
 abbrev pub entered : Node → Xid → Node
-entered node x = told node (Committed x node.scn (record { 0 = 0 }))
+entered node x = told node (Committed x node.scn 0)
 
 -- a fault ended the instance in statement n
 abbrev pub lost : Node → ℕ → Node
-lost node n = told (told node (Ended (record { 0 = 0 }) false)) (Refused n Lost)
-
--- The journal of a run is good in all regards but whether each line is answered.
-pub record IsGoodSoFar (parts : ScriptParts) (journal : List Entry) : Type 0 where
-  pub named : All (λ e. IfSome (session_in e) (λ z. z < length parts.names)) journal
-  pub lines : GoodLines parts journal
-  pub rows : GoodRows (asked parts) journal
-  pub found : GoodFound journal
-  pub commits : GoodCommits journal
-  pub acknowledgements : GoodAcknowledgements journal
-  pub starts : GoodStarts journal
-  pub row_locks : GoodRowLocks journal
-  pub replay : GoodReplay journal
+lost node n = told (told node (Ended 0 false)) (Refused n Lost)
 
 -- The journal of a run that a fault ended is good so far. That fault is the one end of an instance in it, and the one
 -- refusal is that of the statement that was lost.
-pub record IsLostSoFar (parts : ScriptParts) (journal : List Entry) : Type 0 where
-  pub good : IsGoodSoFar parts journal
-  pub ends : ends_in (reverse journal) ≡ fault_end
-  pub refused : causes_in (reverse journal) ≡ fault_cause
+pub record IsLostSoFar (parts : ScriptParts) (journal : Past) : Type 0 where
+  pub good : GoodRun parts journal
+  pub ends : ends_in journal ≡ fault_end
+  pub refused : causes_in journal ≡ fault_cause

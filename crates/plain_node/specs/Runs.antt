@@ -1,11 +1,12 @@
 -- Which lines the node can run.
-use Rattle.std.specs.Prelude.{◌≡◌, ℕ, ◌^◌, ◌<◌, ◌≤◌, List, [], ◌∷◌, length, reverse}
+use Rattle.std.specs.Prelude.{◌≡◌, ℕ, ◌^◌, ◌<◌, ◌≤◌, List, [], ◌∷◌, length}
 use Rattle.std.specs.Prelude.{Bool, true, false, IfSome, is_some, Option, All}
 use Rattle.script_text.specs.Lines.{session_in}
-use Rattle.row_model.specs.Good.{Range}
+use Rattle.journal.specs.Good.{Range}
 use Rattle.script_text.specs.declared.item.Item.{Item}
 use Rattle.script_text.specs.declared.item.Item.TheVariants.{Session, Stmt as StmtItem}
-use Rattle.script_text.specs.WellFormed.{HasRowsBelow, IsReadStmt}
+use Rattle.script_text.specs.WellFormed.{HasRowsBelow}
+use Rattle.script_text.specs.OneSession.{is_simple}
 use Rattle.redo_record.specs.Redo.{IsXid}
 use Rattle.plain_node.specs.declared.node.Node.{Node}
 use Rattle.plain_node.specs.Slots.{wrap_at}
@@ -13,8 +14,8 @@ use Rattle.plain_node.specs.Sound.{Sound, Proper, parts_of}
 
 -- a line that the node knows, with its one session opened before or not
 abbrev pub IsPlain : Bool → Item → Type 0
-IsPlain opened (Session session inst) = (session ≡ 0) × (inst.0 ≡ 0) × (opened ≡ false)
-IsPlain opened (StmtItem session what) = (session ≡ 0) × (opened ≡ true) × IsReadStmt what × HasRowsBelow 512 what
+IsPlain opened (Session session inst) = (session ≡ 0) × (inst ≡ 0) × (opened ≡ false)
+IsPlain opened (StmtItem session what) = (session ≡ 0) × (opened ≡ true) × (is_simple what ≡ true) × HasRowsBelow 512 what
 IsPlain opened _ = ⊥
 
 -- whether the session is opened after a line
@@ -30,7 +31,7 @@ RunsPlainly last opened (line ∷ lines) =
 
 -- the node's numbers after the line `last`
 pub record Fits (last : ℕ) (node : Node) : Type 0 where
-  pub scn : node.scn.0 ≤ last
+  pub scn : node.scn ≤ last
   pub slots : length node.slots ≡ 8
   pub wraps : (k : ℕ) → k < 8 → wrap_at node.slots k ≤ last
   pub own : IfSome node.own IsXid
@@ -41,10 +42,10 @@ CanRun node lines = (last : ℕ) × Fits last node × RunsPlainly last (is_some 
 
 -- the node's state agrees with its journal
 abbrev pub IsSound : (ℕ → Option Range) → Node → Type 0
-IsSound asked node = Sound asked 0 (reverse node.journal) (parts_of node)
+IsSound asked node = Sound asked 0 node.journal (parts_of node)
 
 abbrev pub IsProper : Node → Type 0
-IsProper node = Proper 0 (reverse node.journal) (parts_of node)
+IsProper node = Proper 0 node.journal (parts_of node)
 
 -- each session that the journal names is below a number
 abbrev pub IsNamed : ℕ → Node → Type 0

@@ -1,15 +1,15 @@
 -- What the transaction slots say.
 use Rattle.std.specs.Prelude.{ℕ, ◌+◌, ◌<◌, ◌≤◌, List, length, slice_index_or}
-use Rattle.rac_nums.specs.declared.names.Xid.{Xid}
+use Rattle.base_types.specs.declared.names.Xid.{Xid}
 use Rattle.plain_node.specs.declared.slots.SlotUse.{SlotUse}
 
 -- a slot that was never used
 abbrev pub never : SlotUse
-never = record { wrap = 0; end = record { 0 = 0 } }
+never = record { wrap = 0; end = 0 }
 
 -- the SCN at which the last transaction of a slot ended
 abbrev pub end_at : List SlotUse → ℕ → ℕ
-end_at slots k = (slice_index_or slots k never).end.0
+end_at slots k = (slice_index_or slots k never).end
 
 -- how often a slot was taken
 abbrev pub wrap_at : List SlotUse → ℕ → ℕ
@@ -23,4 +23,4 @@ pub record IsLeastUsed (slots : List SlotUse) (k : ℕ) : Type 0 where
 
 -- the next transaction of a slot
 abbrev pub next_xid : List SlotUse → ℕ → Xid
-next_xid slots k = record { seg = record { 0 = 0 }; slot = k; wrap = wrap_at slots k + 1 }
+next_xid slots k = record { seg = 0; slot = k; wrap = wrap_at slots k + 1 }

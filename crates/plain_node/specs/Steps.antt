@@ -1,16 +1,16 @@
 -- What each statement leaves of the node.
 use Rattle.std.specs.Prelude.{◌≡◌, ℕ, slice_index_or, MatchOption, ◌+◌, [], ◌∷◌, ◌++◌}
 use Rattle.std.specs.Prelude.{reverse, Option, Some, None, unwrap_or, map, slice_set}
-use Rattle.rac_nums.specs.declared.names.RowNo.{RowNo}
-use Rattle.rac_nums.specs.declared.names.Scn.{Scn}
-use Rattle.rac_nums.specs.declared.names.Xid.{Xid}
-use Rattle.rac_nums.specs.declared.names.InstNo.{InstNo}
-use Rattle.rac_nums.specs.declared.value.Value.{Value}
-use Rattle.rac_nums.specs.declared.value.Value.TheVariants.{Absent}
-use Rattle.row_model.specs.declared.entry.Entry.{Entry}
-use Rattle.row_model.specs.declared.entry.Entry.TheVariants.{Opened, Started, Rows, Changed}
-use Rattle.row_model.specs.declared.entry.Entry.TheVariants.{Marked, Committed, Acked, Plain}
-use Rattle.row_model.specs.Good.{listed}
+use Rattle.base_types.specs.declared.names.RowNo.{RowNo}
+use Rattle.base_types.specs.declared.names.Scn.{Scn}
+use Rattle.base_types.specs.declared.names.Xid.{Xid}
+use Rattle.base_types.specs.declared.names.InstNo.{InstNo}
+use Rattle.base_types.specs.declared.value.Value.{Value}
+use Rattle.base_types.specs.declared.value.Value.TheVariants.{Absent}
+use Rattle.journal.specs.declared.entry.Entry.{Entry}
+use Rattle.journal.specs.declared.entry.Entry.TheVariants.{Opened, Started, Rows, Changed}
+use Rattle.journal.specs.declared.entry.Entry.TheVariants.{Marked, Committed, Acked, Plain}
+use Rattle.journal.specs.Good.{listed}
 use Rattle.plain_node.specs.declared.node.Node.{Node}
 use Rattle.plain_node.specs.declared.versions.Pending.{Pending}
 use Rattle.plain_node.specs.declared.versions.Version.{Version}
@@ -24,11 +24,11 @@ value_in node s row =
 
 -- the node with one more entry
 abbrev pub told : Node → Entry → Node
-told node e = record node { journal = node.journal ++ e ∷ [] }
+told node e = record node { journal = e ∷ node.journal }
 
 -- the session was opened on an instance
 abbrev pub opened : Node → ℕ → InstNo → Node
-opened node z inst = record node { home = Some inst; journal = node.journal ++ Opened z inst ∷ [] }
+opened node z inst = record node { home = Some inst; journal = Opened z inst ∷ node.journal }
 
 -- a statement started
 abbrev pub started : Node → ℕ → ℕ → Node
@@ -36,7 +36,7 @@ started node n z = told node (Started n z node.known)
 
 -- a get was answered
 abbrev pub got : Node → ℕ → ℕ → RowNo → Node
-got node n z row = told (started node n z) (Rows n (listed (value_in node node.known.0) row.0 1))
+got node n z row = told (started node n z) (Rows n (listed (value_in node node.known) row 1))
 
 -- a transaction began in slot k
 abbrev pub begun : Node → ℕ → Node
@@ -59,8 +59,8 @@ IsOwn old x new =
 abbrev pub changed : Node → ℕ → Xid → RowNo → Value → Value → Node
 changed node n x row found new =
     record node {
-      scn = record { 0 = node.scn.0 + 1 };
-      journal = node.journal ++ Changed n x row found new ∷ [];
+      scn = node.scn + 1;
+      journal = Changed n x row found new ∷ node.journal;
       pending = node.pending ++ record { row = row; value = new } ∷ [];
     }
 
@@ -68,7 +68,7 @@ changed node n x row found new =
 abbrev pub Puts : Node → ℕ → ℕ → RowNo → Value → Node → Type 0
 Puts old n z row value new =
     (x : Xid) × (mid : Node) × IsOwn (started old n z) x mid
-    × (new ≡ changed mid n x row (value_in old old.known.0 row.0) value)
+    × (new ≡ changed mid n x row (value_in old old.known row) value)
 
 -- a pending change as a version that ended at c
 abbrev pub version_at : Scn → Pending → Version
@@ -85,13 +85,13 @@ finished node n x =
       own = None;
       pending = [];
       ended = node.ended ++ map (version_at node.scn) node.pending;
-      journal = node.journal ++ Acked n x node.scn ∷ [];
+      journal = Acked n x node.scn ∷ node.journal;
     }
 
 -- the transaction committed at the next SCN
 abbrev pub ended_by : Node → ℕ → Xid → Node
 ended_by node n x =
-    let c : Scn = record { 0 = node.scn.0 + 1 } in
+    let c : Scn = node.scn + 1 in
     record {
       scn = c;
       known = c;
@@ -100,7 +100,7 @@ ended_by node n x =
       own = None;
       pending = [];
       ended = node.ended ++ map (version_at c) node.pending;
-      journal = ((node.journal ++ Marked n x c ∷ []) ++ Committed x c (record { 0 = 0 }) ∷ []) ++ Acked n x c ∷ [];
+      journal = Acked n x c ∷ Committed x c 0 ∷ Marked n x c ∷ node.journal;
     }
 
 -- the end of the open transaction, where there is one

@@ -1,15 +1,15 @@
 -- What the newest of some versions puts into a row.
 use Rattle.std.specs.Prelude.{ℕ, List, Option, ◌==◌, ◌&&◌, nat_le, find}
 use Rattle.std.specs.Option.{option_map}
-use Rattle.rac_nums.specs.declared.value.Value.{Value}
+use Rattle.base_types.specs.declared.value.Value.{Value}
 use Rattle.plain_node.specs.declared.versions.Pending.{Pending}
 use Rattle.plain_node.specs.declared.versions.Version.{Version}
 
 -- what the newest pending change of a row puts there, the newest first
 abbrev pub pending_value : ℕ → List Pending → Option Value
-pending_value row pending = option_map (λ change. change.value) (find (λ change. change.row.0 == row) pending)
+pending_value row pending = option_map (λ change. change.value) (find (λ change. change.row == row) pending)
 
 -- what the newest version of a row that ended at s or before puts there, the newest first
 abbrev pub ended_value : ℕ → ℕ → List Version → Option Value
 ended_value s row versions =
-    option_map (λ version. version.value) (find (λ version. version.row.0 == row && nat_le version.c.0 s) versions)
+    option_map (λ version. version.value) (find (λ version. version.row == row && nat_le version.c s) versions)

@@ -1,10 +1,9 @@
 ghost use Rattle.std.specs.Prelude.{◌≡◌, ◌≢◌, ℕ, ◌+◌, ◌*◌, ◌^◌, ◌<◌, ◌≤◌, ◌⊎◌, [], ◌∷◌, ◌++◌, ◌-◌, length, Option, None, IfOk, IfSome, IsErr, IsErrOf, IsSome, IsSomeAnd, OnErr, OnOk};
-ghost use Rattle.rac_io.specs.Counts.{Rose};
-ghost use Rattle.rac_disk.specs.Calls.{HasRoom, WhereTold};
+ghost use Rattle.rac_disk.specs.State.{HadFault, IsCalm, WhereTold};
 ghost use Rattle.redo_record.specs.Redo.{IsRedo, IsXid, length_of, redo_bytes};
 ghost use Rattle.redo_thread.specs.Thread.{ThreadState, appended, end_of, forced};
-ghost use Rattle.row_model.specs.Good.{Range};
-ghost use Rattle.plain_node.specs.Engine.{Ends, EndsCut, IsCutEnd, EntersIfWhole, FailedOnce, IsCalm, IsCutCommit, IsKept, IsOneFault, LogsTell, MadeRoom, MaySave};
+ghost use Rattle.journal.specs.Good.{Range};
+ghost use Rattle.plain_node.specs.Engine.{Ends, EndsCut, IsCutEnd, EntersIfWhole, FailsToForce, HasCause, IsCutCommit, IsKept, IsOneFault, LogsTell, MadeRoom};
 ghost use Rattle.plain_node.specs.RedoSize.{IsMeasured, redo_size};
 ghost use Rattle.plain_node.specs.Runs.{Fits, IsProper, IsSound};
 ghost use Rattle.plain_node.specs.Steps.{opened, started, got, Puts, committed};
@@ -12,10 +11,11 @@ ghost use Rattle.plain_node.specs.Lost.{entered};
 ghost use Rattle.plain_node.specs.Slots.{wrap_at};
 
 use crate::node::Node;
+use base_types::{InstNo, NoMemory, RedoAt, RowNo, Value, Xid};
 use plain_redo::{change_record, commit_record};
 use rac_disk::{Failed, SharedDisk};
-use rac_nums::{InstNo, NoMemory, Redo, RedoAt, RowNo, Value, Xid};
 use redo_thread::RedoThread;
+use redo_types::Redo;
 use std::alloc::Global;
 
 /// The largest record, in bytes.
@@ -68,11 +68,9 @@ impl Engine {
     fn make_room<D: SharedDisk>(&mut self, disk: &mut D) -> Result<(), Failed>
         ensures node { self.new.node ≡ self.old.node }
         ensures room { OnOk result (length self.new.thread.waiting + 236 ≤ 65536) }
-        ensures made { OnOk result (MadeRoom (D.state disk.old) self.old.thread (D.state disk.new) self.new.thread) }
-        ensures calm { OnOk result (IsCalm (D.faults disk.old) (D.faults disk.new) (D.full disk.old) (D.full disk.new)) }
-        ensures saved { OnErr result (MaySave (D.state disk.old) (D.state disk.new) self.old.thread) }
-        ensures cause { OnErr result (FailedOnce (D.faults disk.old) (D.faults disk.new) (D.full disk.old) (D.full disk.new)) }
-        ensures full { HasRoom (D.state disk.old) self.old.thread.number (length self.old.thread.waiting) → D.full disk.new ≡ D.full disk.old }
+        ensures made { OnOk result (MadeRoom (D.state disk.old).told self.old.thread (D.state disk.new).told self.new.thread) }
+        ensures calm { OnOk result (IsCalm (D.state disk.old) (D.state disk.new)) }
+        ensures failed { OnErr result (FailsToForce (D.state disk.old) self.old.thread (D.state disk.new)) }
     {
         if BUFFER - self.thread.waiting().len() < LARGEST {
             self.thread.force(disk)?;
@@ -119,29 +117,29 @@ impl Engine {
         requires session { session ≡ 0 }
         requires wraps { (k : ℕ) → k < 8 → wrap_at self.old.node.slots k + 1 < 2 ^ 32 }
         requires slots { length self.old.node.slots ≡ 8 }
-        requires scn { self.old.node.scn.0 + 2 < 2 ^ 64 }
+        requires scn { self.old.node.scn + 2 < 2 ^ 64 }
         requires own { IfSome self.old.node.own IsXid }
-        requires row { row.0 < 512 }
+        requires row { row < 512 }
         requires place { end_of self.old.thread + 236 < 2 ^ 64 }
         ensures puts { OnOk result (Puts self.old.node stmt session row new self.new.node) }
         ensures thread { OnOk result ((self.new.thread.number ≡ self.old.thread.number) × (end_of self.new.thread ≤ end_of self.old.thread + 236)) }
         ensures kept { OnOk result ((asked : ℕ → Option Range) → IsSound asked self.old.node → IsProper self.old.node →
-            IsKept (D.state disk.old) self.old → IsKept (D.state disk.new) self.new) }
-        ensures calm { OnOk result (IsCalm (D.faults disk.old) (D.faults disk.new) (D.full disk.old) (D.full disk.new)) }
+            IsKept (D.state disk.old).told self.old → IsKept (D.state disk.new).told self.new) }
+        ensures calm { OnOk result (IsCalm (D.state disk.old) (D.state disk.new)) }
         ensures cut { IsErrOf result Stop.Fault → self.new.node ≡ started self.old.node stmt session }
         ensures tells { IsErrOf result Stop.Fault → (asked : ℕ → Option Range) → IsSound asked self.old.node → IsProper self.old.node →
-            IsKept (D.state disk.old) self.old → IsSomeAnd (D.state disk.new) (λ it. LogsTell it self.new.node.journal) }
-        ensures cause { IsErrOf result Stop.Fault → FailedOnce (D.faults disk.old) (D.faults disk.new) (D.full disk.old) (D.full disk.new) }
-        ensures measured { OnOk result ((room : ℕ) → IsMeasured room (D.state disk.old) self.old → IsMeasured room (D.state disk.new) self.new) }
-        ensures full { IsErrOf result Stop.Fault → (room : ℕ) → IsMeasured room (D.state disk.old) self.old → redo_size self.new.node.journal ≤ room →
-            D.full disk.new ≡ D.full disk.old }
+            IsKept (D.state disk.old).told self.old → IsSomeAnd (D.state disk.new).told (λ it. LogsTell it self.new.node.journal) }
+        ensures cause { IsErrOf result Stop.Fault → HasCause (D.state disk.old) (D.state disk.new) }
+        ensures measured { OnOk result ((room : ℕ) → IsMeasured room (D.state disk.old).told self.old → IsMeasured room (D.state disk.new).told self.new) }
+        ensures full { IsErrOf result Stop.Fault → (room : ℕ) → IsMeasured room (D.state disk.old).told self.old → redo_size self.new.node.journal ≤ room →
+            (D.state disk.new).full ≡ (D.state disk.old).full }
     {
         let s = self.node.start(stmt, session)?;
         if let Err(Failed) = self.make_room(disk) {
             return Err(Stop::Fault);
         }
         let (xid, found) = self.node.change(stmt, s, row, new)?;
-        self.append(&change_record(xid, self.node.scn, row, found, new));
+        self.append(&change_record(&xid, self.node.scn, row, found, new));
         Ok(())
     }
 
@@ -155,29 +153,29 @@ impl Engine {
     ) -> Result<(), Stop>
         requires session { session ≡ 0 }
         requires slots { length self.old.node.slots ≡ 8 }
-        requires scn { self.old.node.scn.0 + 2 < 2 ^ 64 }
+        requires scn { self.old.node.scn + 2 < 2 ^ 64 }
         requires own { IfSome self.old.node.own IsXid }
         requires number { self.old.thread.number ≡ 0 }
         requires place { end_of self.old.thread + 236 < 2 ^ 64 }
         ensures committed { OnOk result (self.new.node ≡ committed self.old.node stmt session) }
         ensures kept { OnOk result ((asked : ℕ → Option Range) → IsSound asked self.old.node → IsProper self.old.node →
-            IsKept (D.state disk.old) self.old → IsKept (D.state disk.new) self.new) }
+            IsKept (D.state disk.old).told self.old → IsKept (D.state disk.new).told self.new) }
         ensures thread { OnOk result ((self.new.thread.number ≡ self.old.thread.number)
-            × (end_of self.new.thread ≤ end_of self.old.thread + (self.new.node.scn.0 - self.old.node.scn.0) * 236)) }
-        ensures calm { OnOk result (IsCalm (D.faults disk.old) (D.faults disk.new) (D.full disk.old) (D.full disk.new)) }
+            × (end_of self.new.thread ≤ end_of self.old.thread + (self.new.node.scn - self.old.node.scn) * 236)) }
+        ensures calm { OnOk result (IsCalm (D.state disk.old) (D.state disk.new)) }
         ensures cut { IsErrOf result Stop.Fault → IsCutCommit self.old.node stmt session self.new.node }
         ensures tells { IsErrOf result Stop.Fault → (asked : ℕ → Option Range) → IsSound asked self.old.node → IsProper self.old.node →
-            IsKept (D.state disk.old) self.old → IsOneFault (D.faults disk.old) (D.faults disk.new) (D.full disk.old) (D.full disk.new) →
-            IsSomeAnd (D.state disk.new) (λ it. LogsTell it self.new.node.journal) }
-        ensures cause { IsErrOf result Stop.Fault → Rose (D.faults disk.old) (D.faults disk.new) ⊎ Rose (D.full disk.old) (D.full disk.new) }
-        ensures measured { OnOk result ((room : ℕ) → IsMeasured room (D.state disk.old) self.old → IsMeasured room (D.state disk.new) self.new) }
-        ensures full { IsErrOf result Stop.Fault → (room : ℕ) → IsMeasured room (D.state disk.old) self.old → redo_size self.new.node.journal ≤ room →
-            D.full disk.new ≡ D.full disk.old }
+            IsKept (D.state disk.old).told self.old → IsOneFault (D.state disk.old) (D.state disk.new) →
+            IsSomeAnd (D.state disk.new).told (λ it. LogsTell it self.new.node.journal) }
+        ensures cause { IsErrOf result Stop.Fault → HasCause (D.state disk.old) (D.state disk.new) }
+        ensures measured { OnOk result ((room : ℕ) → IsMeasured room (D.state disk.old).told self.old → IsMeasured room (D.state disk.new).told self.new) }
+        ensures full { IsErrOf result Stop.Fault → (room : ℕ) → IsMeasured room (D.state disk.old).told self.old → redo_size self.new.node.journal ≤ room →
+            (D.state disk.new).full ≡ (D.state disk.old).full }
     {
         let _s = self.node.start(stmt, session)?;
         match self.node.own {
             None => Ok(self.node.answer_plain(stmt)?),
-            Some(xid) => self.end(alloc, disk, stmt, xid),
+            Some(xid) => self.end(alloc, disk, stmt, &xid),
         }
     }
 
@@ -187,20 +185,20 @@ impl Engine {
         alloc: Global,
         disk: &mut D,
         stmt: u32,
-        xid: Xid,
+        xid: &Xid,
     ) -> Result<(), Stop>
-        requires scn { self.old.node.scn.0 + 2 < 2 ^ 64 }
-        requires own { IsXid xid }
+        requires scn { self.old.node.scn + 2 < 2 ^ 64 }
+        requires own { IsXid xid.now }
         requires number { self.old.thread.number ≡ 0 }
         requires place { end_of self.old.thread + 236 < 2 ^ 64 }
-        ensures ended { OnOk result (Ends (D.state disk.old) self.old stmt xid (D.state disk.new) self.new) }
-        ensures calm { OnOk result (IsCalm (D.faults disk.old) (D.faults disk.new) (D.full disk.old) (D.full disk.new)) }
-        ensures left { IsErrOf result Stop.Fault → IsCutEnd self.old.node stmt xid self.new.node }
-        ensures cut { IsErrOf result Stop.Fault → IsSome (D.state disk.old) → EndsCut (D.state disk.old) self.old stmt xid (D.state disk.new) self.new
-            (IsOneFault (D.faults disk.old) (D.faults disk.new) (D.full disk.old) (D.full disk.new)) }
-        ensures cause { IsErrOf result Stop.Fault → Rose (D.faults disk.old) (D.faults disk.new) ⊎ Rose (D.full disk.old) (D.full disk.new) }
-        ensures full { IsErrOf result Stop.Fault → (room : ℕ) → IsMeasured room (D.state disk.old) self.old → redo_size self.new.node.journal ≤ room →
-            D.full disk.new ≡ D.full disk.old }
+        ensures ended { OnOk result (Ends (D.state disk.old).told self.old stmt xid.now (D.state disk.new).told self.new) }
+        ensures calm { OnOk result (IsCalm (D.state disk.old) (D.state disk.new)) }
+        ensures left { IsErrOf result Stop.Fault → IsCutEnd self.old.node stmt xid.now self.new.node }
+        ensures cut { IsErrOf result Stop.Fault → IsSome (D.state disk.old).told → EndsCut (D.state disk.old).told self.old stmt xid.now (D.state disk.new).told self.new
+            (IsOneFault (D.state disk.old) (D.state disk.new)) }
+        ensures cause { IsErrOf result Stop.Fault → HasCause (D.state disk.old) (D.state disk.new) }
+        ensures full { IsErrOf result Stop.Fault → (room : ℕ) → IsMeasured room (D.state disk.old).told self.old → redo_size self.new.node.journal ≤ room →
+            (D.state disk.new).full ≡ (D.state disk.old).full }
     {
         if let Err(Failed) = self.make_room(disk) {
             return Err(Stop::Fault);
@@ -220,20 +218,19 @@ impl Engine {
     }
 
     // After a failed force: the newest commit enters where its record reached the disk whole.
-    fn enter_if_whole<D: SharedDisk>(&mut self, disk: &mut D, xid: Xid) -> Result<(), NoMemory>
+    fn enter_if_whole<D: SharedDisk>(&mut self, disk: &mut D, xid: &Xid) -> Result<(), NoMemory>
         requires number { self.old.thread.number ≡ 0 }
         ensures thread { self.new.thread ≡ self.old.thread }
-        ensures state { WhereTold (D.state disk.old) (D.state disk.new) (λ old new. new ≡ old) }
-        ensures enters { OnOk result (IsSome (D.state disk.old) → EntersIfWhole (D.state disk.new) self.old.thread self.old.node xid self.new.node
-            ((D.faults disk.new ≡ D.faults disk.old) × (D.faults disk.new < 2 ^ 64 - 1))) }
-        ensures either { OnOk result ((self.new.node ≡ self.old.node) ⊎ (self.new.node ≡ entered self.old.node xid)) }
-        ensures rose { (D.faults disk.new ≡ D.faults disk.old) ⊎ Rose (D.faults disk.old) (D.faults disk.new) }
-        ensures full { D.full disk.new ≡ D.full disk.old }
+        ensures state { WhereTold (D.state disk.old).told (D.state disk.new).told (λ old new. new ≡ old) }
+        ensures enters { OnOk result (IsSome (D.state disk.old).told → EntersIfWhole (D.state disk.new).told self.old.thread self.old.node xid.now self.new.node
+            (IsCalm (D.state disk.old) (D.state disk.new) × ((D.state disk.new).faults < 2 ^ 64 - 1))) }
+        ensures either { OnOk result ((self.new.node ≡ self.old.node) ⊎ (self.new.node ≡ entered self.old.node xid.now)) }
+        ensures counts { IsCalm (D.state disk.old) (D.state disk.new) ⊎ HadFault (D.state disk.old) (D.state disk.new) }
     {
         let Ok(len) = disk.log_len(InstNo(0)) else {
             return Ok(());
         };
-        if len < self.thread.end().0 {
+        if len < self.thread.end().get() {
             return Ok(());
         }
         self.node.enter(xid)

@@ -1,18 +1,18 @@
 ghost use Rattle.std.specs.Prelude.{Option, None};
-ghost use Rattle.row_model.specs.Good.{Range};
+ghost use Rattle.journal.specs.Good.{Range};
 ghost use Rattle.plain_node.specs.Lost.{entered, lost, marked};
 ghost use Rattle.plain_node.specs.Runs.{Fits, IsSound, IsProper};
-ghost use Rattle.std.specs.Prelude.{◌≡◌, ℕ, ◌+◌, ◌^◌, ◌<◌, ◌≤◌, length, IsOkAnd, IfOk, OnOk, IsNone, MatchOption, Some, None, reverse};
+ghost use Rattle.std.specs.Prelude.{◌≡◌, ℕ, ◌+◌, ◌^◌, ◌<◌, IfOk, OnOk, None};
 ghost use Rattle.std.specs.Prelude.{[]};
-ghost use Rattle.row_model.specs.Good.{listed_before};
-ghost use Rattle.std.specs.Prelude.{◌∷◌, ◌++◌, map, IfSome};
+ghost use Rattle.journal.specs.Good.{listed_before};
+ghost use Rattle.std.specs.Prelude.{◌++◌, map};
 ghost use Rattle.plain_node.specs.Slots.{wrap_at, IsLeastUsed, next_xid};
 ghost use Rattle.plain_node.specs.Steps.{value_in, told, opened, started, got, begun, changed, IsOwn, version_at, finished};
 
 use crate::slots::{SlotUse, least_used};
 use crate::versions::{Pending, Version, newest_ended, newest_pending};
-use rac_nums::{InstNo, NoMemory, RowNo, Scn, Sequence, Value, Xid};
-use row_model::{Cause, Entry, Journal, RowList};
+use base_types::{InstNo, NoMemory, RowNo, Scn, Sequence, Value, Xid};
+use journal::{Cause, Entry, Journal, RowList};
 use std::alloc::Global;
 
 /// The one instance, what its one session has open, and the journal so far.
@@ -59,7 +59,7 @@ impl Node {
 
     /// What a row holds for the session at `s`: its own newest change, else the newest version up to `s`.
     fn value(&self, row: RowNo, s: Scn) -> Value
-        ensures { result ≡ value_in self.now s.0 row.0 }
+        ensures { result ≡ value_in self.now s row }
     {
         match newest_pending(self.pending.as_slice(), row) {
             Some(value) => value,
@@ -81,7 +81,11 @@ impl Node {
         ensures started { OnOk result (self.new ≡ started self.old stmt session) }
     {
         let s = self.known;
-        self.journal.push(Entry::Started { stmt, session, s })?;
+        self.journal.push(Entry::Started {
+            stmt,
+            session,
+            snapshot: s,
+        })?;
         Ok(s)
     }
 
@@ -109,13 +113,13 @@ impl Node {
     {
         let at = least_used(&self.slots);
         self.slots[at].wrap += 1;
-        let xid = Xid {
+        let xid = &Xid {
             seg: InstNo(0),
             slot: at as u8,
             wrap: self.slots[at].wrap,
         };
-        self.own = Some(xid);
-        xid
+        self.own = Some(*xid);
+        *xid
     }
 
     /// The open transaction, begun where there is none.
@@ -138,22 +142,22 @@ impl Node {
         new: Value,
     ) -> Result<(Xid, Value), NoMemory>
         requires wraps { (k : ℕ) → k < 8 → wrap_at self.old.slots k + 1 < 2 ^ 32 }
-        requires scn { self.old.scn.0 + 1 < 2 ^ 64 }
-        ensures { IfOk result (λ told. (told.1 ≡ value_in self.old s.0 row.0)
+        requires scn { self.old.scn + 1 < 2 ^ 64 }
+        ensures { IfOk result (λ told. (told.1 ≡ value_in self.old s row)
             × ((mid : Node) × IsOwn self.old told.0 mid × (self.new ≡ changed mid stmt told.0 row told.1 new))) }
     {
         let found = self.value(row, s);
-        let xid = self.own_or_new();
-        self.scn.0 += 1;
+        let xid = &self.own_or_new();
+        self.scn = Scn(self.scn.get() + 1);
         self.journal.push(Entry::Changed {
             stmt,
-            xid,
+            xid: *xid,
             row,
             found,
             new,
         })?;
         self.pending.push(Pending { row, value: new })?;
-        Ok((xid, found))
+        Ok((*xid, found))
     }
 
     /// Answers a commit without a transaction.
@@ -164,24 +168,28 @@ impl Node {
     }
 
     /// Marks the end of a transaction, and gives its SCN.
-    pub fn mark(&mut self, stmt: u32, xid: Xid) -> Result<Scn, NoMemory>
-        requires { self.old.scn.0 + 1 < 2 ^ 64 }
-        ensures marked { OnOk result (self.new ≡ marked self.old stmt xid) }
+    pub fn mark(&mut self, stmt: u32, xid: &Xid) -> Result<Scn, NoMemory>
+        requires { self.old.scn + 1 < 2 ^ 64 }
+        ensures marked { OnOk result (self.new ≡ marked self.old stmt xid.now) }
         ensures c { IfOk result (λ c. c ≡ self.new.scn) }
     {
-        self.scn.0 += 1;
+        self.scn = Scn(self.scn.get() + 1);
         let c = self.scn;
-        self.journal.push(Entry::Marked { stmt, xid, c })?;
+        self.journal.push(Entry::Marked {
+            stmt,
+            xid: *xid,
+            commit_scn: c,
+        })?;
         Ok(c)
     }
 
     /// Enters the commit of the newest SCN, whose record has reached the disk.
-    pub fn enter(&mut self, xid: Xid) -> Result<(), NoMemory>
-        ensures { OnOk result (self.new ≡ entered self.old xid) }
+    pub fn enter(&mut self, xid: &Xid) -> Result<(), NoMemory>
+        ensures { OnOk result (self.new ≡ entered self.old xid.now) }
     {
         self.journal.push(Entry::Committed {
-            xid,
-            c: self.scn,
+            xid: *xid,
+            commit_scn: self.scn,
             inst: InstNo(0),
         })
     }
@@ -201,12 +209,16 @@ impl Node {
     }
 
     /// Answers the commit of the newest SCN: what was pending is part of the database.
-    pub fn finish(&mut self, alloc: Global, stmt: u32, xid: Xid) -> Result<(), NoMemory>
-        requires slot { xid.slot < 8 }
-        ensures { OnOk result (self.new ≡ finished self.old stmt xid) }
+    pub fn finish(&mut self, alloc: Global, stmt: u32, xid: &Xid) -> Result<(), NoMemory>
+        requires slot { xid.now.slot < 8 }
+        ensures { OnOk result (self.new ≡ finished self.old stmt xid.now) }
     {
         let c = self.scn;
-        self.journal.push(Entry::Acked { stmt, xid, c })?;
+        self.journal.push(Entry::Acked {
+            stmt,
+            xid: *xid,
+            commit_scn: c,
+        })?;
         append_versions(&mut self.ended, self.pending.as_slice(), c)?;
         self.pending = Sequence::new(alloc);
         self.slots[xid.slot as usize].end = c;
@@ -236,7 +248,7 @@ fn append_versions(
 
 /// A row with its value, and nothing where it is absent.
 fn one_row(alloc: Global, row: RowNo, value: Value) -> Result<RowList, NoMemory>
-    ensures { IfOk result (λ rows. rows ≡ listed_before row.0 value []) }
+    ensures { IfOk result (λ rows. rows ≡ listed_before row value []) }
 {
     let mut rows = RowList::new(alloc);
     match value {

@@ -1,23 +1,24 @@
-ghost use Rattle.std.specs.Prelude.{◌≡◌, ◌≢◌, ◌<◌, ◌≤◌, ◌⊎◌, ℕ, List, [], ◌∷◌, ◌++◌, Option, None, true, false, IfOk, IfSome, IsErrOf, IsSomeAnd, OnOk, length};
-ghost use Rattle.rac_disk.specs.Disk.{room_at};
-ghost use Rattle.rac_io.specs.Counts.{Rose};
-ghost use Rattle.row_model.specs.Good.{Range};
+ghost use Rattle.std.specs.Prelude.{◌≡◌, ◌≢◌, ◌<◌, ◌≤◌, ◌⊎◌, ℕ, List, [], ◌∷◌, ◌++◌, Option, None, true, false, IfOk, IfSome, IsErrOf, IsSomeAnd, OnOk};
+ghost use Rattle.rac_disk.specs.State.{IsCalm};
+ghost use Rattle.journal.specs.Good.{Range};
 ghost use Rattle.script_text.specs.declared.item.Item.{Item};
 ghost use Rattle.script_text.specs.ScriptParts.{ScriptParts};
 ghost use Rattle.script_text.specs.Reading.{joined, items_of};
 ghost use Rattle.script_text.specs.WellFormed.{IsWellFormed};
+ghost use Rattle.script_text.specs.OneSession.{is_for_one_session};
+ghost use Rattle.std.specs.List.{list_all};
 ghost use Rattle.script_text.specs.Asked.{range_asked, asked};
 ghost use Rattle.plain_node.specs.Lined.{IsLined, IsNext, AreNext, IsRight, NamesBelow, last_line};
-ghost use Rattle.plain_node.specs.Engine.{CanGo, IsCalm, IsCutLine, IsKept, IsOneFault, LogsTell};
+ghost use Rattle.plain_node.specs.Engine.{CanGo, HasCause, IsCutLine, IsKept, IsOneFault, LogsTell};
 ghost use Rattle.plain_node.specs.Lost.{IsLostSoFar};
-ghost use Rattle.plain_node.specs.Ran.{HasEmptyLogs, IsRan, Tells};
+ghost use Rattle.plain_node.specs.Ran.{IsRan};
 ghost use Rattle.plain_node.specs.RedoSize.{IsMeasured, redo_size};
 ghost use Rattle.plain_node.specs.Runs.{CanRun, IsSound, IsProper, IsNamed};
 
 use crate::engine::{Engine, Stop};
+use base_types::NoMemory;
+use journal::Journal;
 use rac_disk::SharedDisk;
-use rac_nums::NoMemory;
-use row_model::Journal;
 use script_text::{Item, Script, Stmt, Wave, Waves};
 use std::alloc::Global;
 
@@ -47,16 +48,16 @@ fn try_answer<D: SharedDisk>(
         IsSound (asked parts) engine.old.node → IsProper engine.old.node → IsLined parts done last engine.old.node →
         IsLined parts (done ++ (line, item.now) ∷ []) line engine.new.node) }
     ensures kept { OnOk result ((rows : ℕ → Option Range) → IsSound rows engine.old.node → IsProper engine.old.node →
-        IsKept (D.state disk.old) engine.old → IsKept (D.state disk.new) engine.new) }
-    ensures calm { OnOk result (IsCalm (D.faults disk.old) (D.faults disk.new) (D.full disk.old) (D.full disk.new)) }
+        IsKept (D.state disk.old).told engine.old → IsKept (D.state disk.new).told engine.new) }
+    ensures calm { OnOk result (IsCalm (D.state disk.old) (D.state disk.new)) }
     ensures cut { IsErrOf result Stop.Fault → IsCutLine engine.old.node line item.now engine.new.node }
     ensures tells { IsErrOf result Stop.Fault → (rows : ℕ → Option Range) → IsSound rows engine.old.node → IsProper engine.old.node →
-        IsKept (D.state disk.old) engine.old → IsOneFault (D.faults disk.old) (D.faults disk.new) (D.full disk.old) (D.full disk.new) →
-        IsSomeAnd (D.state disk.new) (λ it. LogsTell it engine.new.node.journal) }
-    ensures cause { IsErrOf result Stop.Fault → Rose (D.faults disk.old) (D.faults disk.new) ⊎ Rose (D.full disk.old) (D.full disk.new) }
-    ensures measured { OnOk result ((room : ℕ) → IsMeasured room (D.state disk.old) engine.old → IsMeasured room (D.state disk.new) engine.new) }
-    ensures full { IsErrOf result Stop.Fault → (room : ℕ) → IsMeasured room (D.state disk.old) engine.old → redo_size engine.new.node.journal ≤ room →
-        D.full disk.new ≡ D.full disk.old }
+        IsKept (D.state disk.old).told engine.old → IsOneFault (D.state disk.old) (D.state disk.new) →
+        IsSomeAnd (D.state disk.new).told (λ it. LogsTell it engine.new.node.journal) }
+    ensures cause { IsErrOf result Stop.Fault → HasCause (D.state disk.old) (D.state disk.new) }
+    ensures measured { OnOk result ((room : ℕ) → IsMeasured room (D.state disk.old).told engine.old → IsMeasured room (D.state disk.new).told engine.new) }
+    ensures full { IsErrOf result Stop.Fault → (room : ℕ) → IsMeasured room (D.state disk.old).told engine.old → redo_size engine.new.node.journal ≤ room →
+        (D.state disk.new).full ≡ (D.state disk.old).full }
 {
     match item {
         Item::Session { session, inst } => engine.open(*session, *inst),
@@ -64,7 +65,7 @@ fn try_answer<D: SharedDisk>(
             Stmt::Get(row) => engine.get(alloc, line, *session, *row),
             Stmt::Put(row, value) => engine.put(disk, line, *session, *row, *value),
             Stmt::Commit => engine.commit(alloc, disk, line, *session),
-            // No script asks anything else yet.
+            // A script for one session asks nothing else.
             _ => unreachable!(),
         },
         _ => unreachable!(),
@@ -84,18 +85,17 @@ fn answer<D: SharedDisk>(
     ensures right { OnOk result ((parts : ScriptParts) (done : List (ℕ × Item)) → IsNext parts done (last_line 0 done) (line, item.now) →
         IsRight parts done engine.old.node → IsRight parts (done ++ (line, item.now) ∷ []) engine.new.node) }
     ensures kept { OnOk result ((parts : ScriptParts) (done : List (ℕ × Item)) → IsRight parts done engine.old.node →
-        IsKept (D.state disk.old) engine.old → IsKept (D.state disk.new) engine.new) }
-    ensures calm { OnOk result (IsCalm (D.faults disk.old) (D.faults disk.new) (D.full disk.old) (D.full disk.new)) }
+        IsKept (D.state disk.old).told engine.old → IsKept (D.state disk.new).told engine.new) }
+    ensures calm { OnOk result (IsCalm (D.state disk.old) (D.state disk.new)) }
     ensures lost { IsErrOf result Stop.Fault → (parts : ScriptParts) (done : List (ℕ × Item)) → IsNext parts done (last_line 0 done) (line, item.now) →
         IsRight parts done engine.old.node → IsLostSoFar parts engine.new.node.journal }
     ensures tells { IsErrOf result Stop.Fault → (parts : ScriptParts) (done : List (ℕ × Item)) → IsRight parts done engine.old.node →
-        IsKept (D.state disk.old) engine.old → IsOneFault (D.faults disk.old) (D.faults disk.new) (D.full disk.old) (D.full disk.new) →
-        IsSomeAnd (D.state disk.new) (λ it. LogsTell it engine.new.node.journal) }
-    ensures cause { IsErrOf result Stop.Fault → Rose (D.faults disk.old) (D.faults disk.new) ⊎ Rose (D.full disk.old) (D.full disk.new) }
-    ensures measured { OnOk result ((room : ℕ) → IsMeasured room (D.state disk.old) engine.old → IsMeasured room (D.state disk.new) engine.new) }
-    ensures full { IsErrOf result Stop.Fault → (room : ℕ) → IsMeasured room (D.state disk.old) engine.old → redo_size engine.new.node.journal ≤ room →
-        D.full disk.new ≡ D.full disk.old }
-    ensures ended { IsErrOf result Stop.Fault → 1 ≤ length engine.new.node.journal }
+        IsKept (D.state disk.old).told engine.old → IsOneFault (D.state disk.old) (D.state disk.new) →
+        IsSomeAnd (D.state disk.new).told (λ it. LogsTell it engine.new.node.journal) }
+    ensures cause { IsErrOf result Stop.Fault → HasCause (D.state disk.old) (D.state disk.new) }
+    ensures measured { OnOk result ((room : ℕ) → IsMeasured room (D.state disk.old).told engine.old → IsMeasured room (D.state disk.new).told engine.new) }
+    ensures full { IsErrOf result Stop.Fault → (room : ℕ) → IsMeasured room (D.state disk.old).told engine.old → redo_size engine.new.node.journal ≤ room →
+        (D.state disk.new).full ≡ (D.state disk.old).full }
 {
     match try_answer(engine, alloc, disk, line, item) {
         Ok(()) => Ok(()),
@@ -118,17 +118,16 @@ fn run_wave<D: SharedDisk>(
     ensures runs { OnOk result ((more : List (ℕ × Item)) → CanGo engine.old (wave.now ++ more) → CanGo engine.new more) }
     ensures went { OnOk result ((parts : ScriptParts) (done : List (ℕ × Item)) → AreNext parts done wave.now →
         IsRight parts done engine.old.node → IsRight parts (done ++ wave.now) engine.new.node
-        × (IsKept (D.state disk.old) engine.old → IsKept (D.state disk.new) engine.new)) }
-    ensures calm { OnOk result (IsCalm (D.faults disk.old) (D.faults disk.new) (D.full disk.old) (D.full disk.new)) }
+        × (IsKept (D.state disk.old).told engine.old → IsKept (D.state disk.new).told engine.new)) }
+    ensures calm { OnOk result (IsCalm (D.state disk.old) (D.state disk.new)) }
     ensures lost { IsErrOf result Stop.Fault → (parts : ScriptParts) (done : List (ℕ × Item)) → AreNext parts done wave.now →
         IsRight parts done engine.old.node → IsLostSoFar parts engine.new.node.journal
-        × (IsKept (D.state disk.old) engine.old → IsOneFault (D.faults disk.old) (D.faults disk.new) (D.full disk.old) (D.full disk.new) →
-        IsSomeAnd (D.state disk.new) (λ it. LogsTell it engine.new.node.journal)) }
-    ensures cause { IsErrOf result Stop.Fault → Rose (D.faults disk.old) (D.faults disk.new) ⊎ Rose (D.full disk.old) (D.full disk.new) }
-    ensures measured { OnOk result ((room : ℕ) → IsMeasured room (D.state disk.old) engine.old → IsMeasured room (D.state disk.new) engine.new) }
-    ensures full { IsErrOf result Stop.Fault → (room : ℕ) → IsMeasured room (D.state disk.old) engine.old → redo_size engine.new.node.journal ≤ room →
-        D.full disk.new ≡ D.full disk.old }
-    ensures ended { IsErrOf result Stop.Fault → 1 ≤ length engine.new.node.journal }
+        × (IsKept (D.state disk.old).told engine.old → IsOneFault (D.state disk.old) (D.state disk.new) →
+        IsSomeAnd (D.state disk.new).told (λ it. LogsTell it engine.new.node.journal)) }
+    ensures cause { IsErrOf result Stop.Fault → HasCause (D.state disk.old) (D.state disk.new) }
+    ensures measured { OnOk result ((room : ℕ) → IsMeasured room (D.state disk.old).told engine.old → IsMeasured room (D.state disk.new).told engine.new) }
+    ensures full { IsErrOf result Stop.Fault → (room : ℕ) → IsMeasured room (D.state disk.old).told engine.old → redo_size engine.new.node.journal ≤ room →
+        (D.state disk.new).full ≡ (D.state disk.old).full }
 {
     for line in wave.as_slice() {
         answer(engine, alloc, disk, line.0, &line.1)?;
@@ -146,16 +145,15 @@ fn run_waves<D: SharedDisk>(
     requires { CanGo engine.old (joined waves.now) }
     ensures went { OnOk result ((parts : ScriptParts) → AreNext parts [] (joined waves.now) →
         IsRight parts [] engine.old.node → IsRight parts (joined waves.now) engine.new.node
-        × (IsKept (D.state disk.old) engine.old → IsKept (D.state disk.new) engine.new)) }
-    ensures calm { OnOk result (IsCalm (D.faults disk.old) (D.faults disk.new) (D.full disk.old) (D.full disk.new)) }
+        × (IsKept (D.state disk.old).told engine.old → IsKept (D.state disk.new).told engine.new)) }
+    ensures calm { OnOk result (IsCalm (D.state disk.old) (D.state disk.new)) }
     ensures lost { IsErrOf result Stop.Fault → (parts : ScriptParts) → AreNext parts [] (joined waves.now) →
         IsRight parts [] engine.old.node → IsLostSoFar parts engine.new.node.journal
-        × (IsKept (D.state disk.old) engine.old → IsOneFault (D.faults disk.old) (D.faults disk.new) (D.full disk.old) (D.full disk.new) →
-        IsSomeAnd (D.state disk.new) (λ it. LogsTell it engine.new.node.journal)) }
-    ensures cause { IsErrOf result Stop.Fault → Rose (D.faults disk.old) (D.faults disk.new) ⊎ Rose (D.full disk.old) (D.full disk.new) }
-    ensures full { IsErrOf result Stop.Fault → (room : ℕ) → IsMeasured room (D.state disk.old) engine.old → redo_size engine.new.node.journal ≤ room →
-        D.full disk.new ≡ D.full disk.old }
-    ensures ended { IsErrOf result Stop.Fault → 1 ≤ length engine.new.node.journal }
+        × (IsKept (D.state disk.old).told engine.old → IsOneFault (D.state disk.old) (D.state disk.new) →
+        IsSomeAnd (D.state disk.new).told (λ it. LogsTell it engine.new.node.journal)) }
+    ensures cause { IsErrOf result Stop.Fault → HasCause (D.state disk.old) (D.state disk.new) }
+    ensures full { IsErrOf result Stop.Fault → (room : ℕ) → IsMeasured room (D.state disk.old).told engine.old → redo_size engine.new.node.journal ≤ room →
+        (D.state disk.new).full ≡ (D.state disk.old).full }
 {
     for wave in waves.as_slice() {
         if let Err(why) = run_wave(engine, alloc, disk, wave) {
@@ -166,18 +164,17 @@ fn run_waves<D: SharedDisk>(
 }
 
 /// Runs a script over a disk whose logs are empty, and gives the journal of the run. The first fault of
-/// the disk ends it.
+/// the disk ends it. An `Err` says that memory ran out.
+///
+/// The script is one for one session: it opens session 0 on instance 0, and has gets, puts and commits of it.
 pub fn run_script<D: SharedDisk>(
     alloc: Global,
     script: &Script,
     disk: &mut D,
 ) -> Result<Ran, NoMemory>
     requires well_formed { IsWellFormed script.now }
-    ensures ran { IfOk result (IsRan script.now (D.faults disk.old) (D.faults disk.new) (D.full disk.old) (D.full disk.new)) }
-    ensures tells { IfOk result (λ ran. Tells (D.state disk.old) (D.state disk.new)
-        (IsOneFault (D.faults disk.old) (D.faults disk.new) (D.full disk.old) (D.full disk.new)) ran.journal) }
-    ensures full { IfOk result (λ ran. IfSome (D.state disk.old) (λ it.
-        HasEmptyLogs it → redo_size ran.journal ≤ room_at it 0 → D.full disk.new ≡ D.full disk.old)) }
+    requires one_session { list_all (λ line. is_for_one_session line.1) (items_of script.now) ≡ true }
+    ensures { IfOk result (IsRan script.now (D.state disk.old) (D.state disk.new)) }
 {
     let mut engine = Engine::new(alloc)?;
     match run_waves(&mut engine, alloc, disk, script.waves()) {

@@ -1,7 +1,7 @@
 ghost use Rattle.std.specs.Prelude.{◌≡◌, ℕ, ◌<◌, ◌≤◌, length};
 ghost use Rattle.plain_node.specs.Slots.{end_at};
 
-use rac_nums::Scn;
+use base_types::Scn;
 
 /// How a transaction slot was used: how often it was taken, and the SCN at which its last transaction ended,
 /// 0 where it was never used.
@@ -20,7 +20,7 @@ pub fn least_used(slots: &[SlotUse]) -> usize
 {
     let mut least = 0;
     for at in 1..slots.len() {
-        if slots[at].end.0 < slots[least].end.0 {
+        if slots[at].end.get() < slots[least].end.get() {
             least = at;
         }
     }

@@ -2,7 +2,7 @@ ghost use Rattle.std.specs.Prelude.{◌≡◌, ◌==◌, ◌&&◌, nat_le, rever
 ghost use Rattle.std.specs.Option.{option_map};
 ghost use Rattle.plain_node.specs.Versions.{pending_value, ended_value};
 
-use rac_nums::{RowNo, Scn, Value};
+use base_types::{RowNo, Scn, Value};
 
 /// What a row got by a change of a transaction that is open.
 #[derive(Clone, Copy, Debug, PartialEq, Eq)]
@@ -21,22 +21,22 @@ pub struct Version {
 
 /// What the newest of the pending changes put into a row.
 pub fn newest_pending(pending: &[Pending], row: RowNo) -> Option<Value>
-    ensures { result ≡ pending_value row.0 (reverse pending.now) }
+    ensures { result ≡ pending_value row (reverse pending.now) }
 {
     pending
         .iter()
         .rev()
-        .find(|change| change.row.0 == row.0)
+        .find(|change| change.row.get() == row.get())
         .map(|change| change.value)
 }
 
 /// What the newest of the versions that ended at `s` or before put into a row.
 pub fn newest_ended(ended: &[Version], row: RowNo, s: Scn) -> Option<Value>
-    ensures { result ≡ ended_value s.0 row.0 (reverse ended.now) }
+    ensures { result ≡ ended_value s row (reverse ended.now) }
 {
     ended
         .iter()
         .rev()
-        .find(|version| version.row.0 == row.0 && version.c.0 <= s.0)
+        .find(|version| version.row.get() == row.get() && version.c.get() <= s.get())
         .map(|version| version.value)
 }

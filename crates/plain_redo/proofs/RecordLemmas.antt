@@ -4,12 +4,12 @@ use Rattle.std.proofs.Math.Nat.{mod-lt, div-lt_iff_lt-mul}
 use Rattle.std.proofs.Math.Facts.{Fits-of_z}
 use Rattle.std.proofs.Math.Dec.{leb}
 use Rattle.std.proofs.lemmas.Bool.Decides.{leb_tells}
-use Rattle.rac_nums.specs.declared.names.RowNo.{RowNo}
-use Rattle.rac_nums.specs.declared.names.Scn.{Scn}
-use Rattle.rac_nums.specs.declared.names.Xid.{Xid}
-use Rattle.rac_nums.specs.declared.undo.TxnSlot.{TxnSlot}
-use Rattle.rac_nums.specs.declared.value.Value.{Value}
-use Rattle.rac_nums.specs.declared.value.Value.TheVariants.{Absent, Num}
+use Rattle.base_types.specs.declared.names.RowNo.{RowNo}
+use Rattle.base_types.specs.declared.names.Scn.{Scn}
+use Rattle.base_types.specs.declared.names.Xid.{Xid}
+use Rattle.redo_types.specs.declared.undo.TxnSlot.{TxnSlot}
+use Rattle.base_types.specs.declared.value.Value.{Value}
+use Rattle.base_types.specs.declared.value.Value.TheVariants.{Absent, Num}
 use Rattle.part_image.specs.Slots.{IsItl, IsValue, bits_of, flag_of, unused_itl}
 use Rattle.part_image.specs.Undo.{IsTxnSlot, IsUndoRecord, NamesEndBefore}
 use Rattle.part_image.proofs.CellLemmas.{AllFit-append}
@@ -38,7 +38,7 @@ names_by wrap (inl h) = (λ few. rw h.0 refl, λ zero. h.1)
 names_by wrap (inr h) = (λ few. absurd (let many = h.1 in omega arith), λ zero. absurd (let one : before wrap ≡ 1 = rw h.0 refl in omega arith))
 
 module _ (x : Xid) (scn : ℕ) (is_xid : IsXid x) (wrap_fits : x.wrap < 2 ^ 32) (some : 1 ≤ scn) (fits : scn + 1 < 2 ^ 64) where
-  seg_fits : x.seg.0 < 256
+  seg_fits : x.seg < 256
   seg_fits = let h = is_xid.segment in omega arith
 
   slot_fits : x.slot < 256
@@ -67,7 +67,7 @@ module _ (x : Xid) (scn : ℕ) (is_xid : IsXid x) (wrap_fits : x.wrap < 2 ^ 32) 
     to = is;
   }
 
-  pub commit_is : IsRedo (commit_record x (record { 0 = scn }))
+  pub commit_is : IsRedo (commit_record x scn)
   commit_is =
       let head = head_is (ended_slot x scn) ended_is in
       record {
@@ -81,11 +81,11 @@ module _ (x : Xid) (scn : ℕ) (is_xid : IsXid x) (wrap_fits : x.wrap < 2 ^ 32) 
         row = tt;
       }
 
-  module _ (row : RowNo) (found new : Value) (small : row.0 < 512) (is_found : IsValue found) (is_new : IsValue new) where
-    place : row.0 % 8 < 8
-    place = mod-lt row.0 (omega arith)
+  module _ (row : RowNo) (found new : Value) (small : row < 512) (is_found : IsValue found) (is_new : IsValue new) where
+    place : row % 8 < 8
+    place = mod-lt row (omega arith)
 
-    block : row.0 / 8 < 64
+    block : row / 8 < 64
     block = (div-lt_iff_lt-mul (omega arith)).1 (omega arith)
 
     undo_is : IsUndoChange (undo_of x scn row found)
@@ -252,7 +252,7 @@ module _ (x : Xid) (scn : ℕ) (is_xid : IsXid x) (wrap_fits : x.wrap < 2 ^ 32) 
       value = is_new;
     }
 
-    pub change_is : IsRedo (change_record x (record { 0 = scn }) row found new)
+    pub change_is : IsRedo (change_record x scn row found new)
     change_is =
         let head = head_is (open_slot x scn) open_is in
         record {

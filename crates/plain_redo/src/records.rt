@@ -3,9 +3,10 @@ ghost use Rattle.part_image.specs.Slots.{IsValue};
 ghost use Rattle.redo_record.specs.Redo.{IsRedo, IsXid};
 ghost use Rattle.plain_redo.specs.Records.{change_record, commit_record, data_of, end_before, ended_slot, head_of, open_slot, undo_of};
 
-use rac_nums::{
-    BlockNo, DataChange, HeadChange, InstNo, ItlSlot, Redo, RedoKind, RowChange, RowNo, Scn,
-    TxnSlot, TxnState, UndoChange, UndoRecord, Value, Xid,
+use base_types::{BlockNo, InstNo, RowNo, Scn, Value, Xid};
+use redo_types::{
+    DataChange, HeadChange, ItlSlot, Redo, RedoKind, RowChange, TxnSlot, TxnState, UndoChange,
+    UndoRecord,
 };
 
 const UNUSED: ItlSlot = ItlSlot {
@@ -18,41 +19,41 @@ const UNUSED: ItlSlot = ItlSlot {
 };
 
 /// The record of a change of a row, which held `found` and holds `new`.
-pub fn change_record(xid: Xid, scn: Scn, row: RowNo, found: Value, new: Value) -> Redo
-    requires xid { IsXid xid }
-    requires row { row.0 < 512 }
-    requires some_scn { 1 ≤ scn.0 }
-    requires scn { scn.0 + 1 < 2 ^ 64 }
-    ensures made { result ≡ change_record xid scn row found new }
+pub fn change_record(xid: &Xid, scn: Scn, row: RowNo, found: Value, new: Value) -> Redo
+    requires xid { IsXid xid.now }
+    requires row { row < 512 }
+    requires some_scn { 1 ≤ scn }
+    requires scn { scn + 1 < 2 ^ 64 }
+    ensures made { result ≡ change_record xid.now scn row found new }
     ensures is_redo { IsRedo result }
 {
     a_value_fits(found);
     a_value_fits(new);
     Redo {
         kind: RedoKind::Change,
-        xid,
+        xid: *xid,
         scn,
-        seq: scn.0,
-        head: head_of(xid, scn, open_slot(xid, scn)),
+        seq: scn.get(),
+        head: head_of(xid, scn, open_slot(*xid, scn)),
         undo: Some(undo_of(xid, scn, row, found)),
         row: Some(data_of(xid, scn, row, new)),
     }
 }
 
 /// The record of a commit.
-pub fn commit_record(xid: Xid, scn: Scn) -> Redo
-    requires xid { IsXid xid }
-    requires some_scn { 1 ≤ scn.0 }
-    requires scn { scn.0 + 1 < 2 ^ 64 }
-    ensures made { result ≡ commit_record xid scn }
+pub fn commit_record(xid: &Xid, scn: Scn) -> Redo
+    requires xid { IsXid xid.now }
+    requires some_scn { 1 ≤ scn }
+    requires scn { scn + 1 < 2 ^ 64 }
+    ensures made { result ≡ commit_record xid.now scn }
     ensures is_redo { IsRedo result }
 {
     Redo {
         kind: RedoKind::Commit,
-        xid,
+        xid: *xid,
         scn,
         seq: 0,
-        head: head_of(xid, scn, ended_slot(xid, scn)),
+        head: head_of(xid, scn, ended_slot(*xid, scn)),
         undo: None,
         row: None,
     }
@@ -66,28 +67,28 @@ fn a_value_fits(value: Value)
 }
 
 // An end before the transaction's own, where it isn't the first of its slot.
-fn end_before(xid: Xid) -> Scn
-    ensures { result ≡ end_before xid }
+fn end_before(xid: &Xid) -> Scn
+    ensures { result ≡ end_before xid.now }
 {
     Scn(if xid.wrap <= 1 { 0 } else { 1 })
 }
 
 fn open_slot(xid: Xid, scn: Scn) -> TxnSlot
-    ensures slot { result ≡ open_slot xid scn.0 }
+    ensures slot { result ≡ open_slot xid scn }
     ensures wrap { xid.wrap < 2 ^ 32 }
 {
     TxnSlot {
         wrap: xid.wrap,
         state: TxnState::Active,
-        first: scn.0,
-        last: scn.0,
+        first: scn.get(),
+        last: scn.get(),
         scn: Scn(0),
-        prev: end_before(xid),
+        prev: end_before(&xid),
     }
 }
 
 fn ended_slot(xid: Xid, scn: Scn) -> TxnSlot
-    ensures slot { result ≡ ended_slot xid scn.0 }
+    ensures slot { result ≡ ended_slot xid scn }
     ensures wrap { xid.wrap < 2 ^ 32 }
 {
     TxnSlot {
@@ -96,39 +97,39 @@ fn ended_slot(xid: Xid, scn: Scn) -> TxnSlot
         first: 0,
         last: 0,
         scn,
-        prev: end_before(xid),
+        prev: end_before(&xid),
     }
 }
 
-fn head_of(xid: Xid, scn: Scn, to: TxnSlot) -> HeadChange
-    requires { scn.0 + 1 < 2 ^ 64 }
-    ensures { result ≡ head_of xid scn.0 to }
+fn head_of(xid: &Xid, scn: Scn, to: TxnSlot) -> HeadChange
+    requires { scn + 1 < 2 ^ 64 }
+    ensures { result ≡ head_of xid.now scn to }
 {
     HeadChange {
         block: BlockNo(4),
-        version: scn.0,
+        version: scn.get(),
         slot: xid.slot,
-        next: scn.0 + 1,
+        next: scn.get() + 1,
         to,
     }
 }
 
-fn undo_of(xid: Xid, scn: Scn, row: RowNo, found: Value) -> UndoChange
-    ensures { result ≡ undo_of xid scn.0 row found }
+fn undo_of(xid: &Xid, scn: Scn, row: RowNo, found: Value) -> UndoChange
+    ensures { result ≡ undo_of xid.now scn row found }
 {
     UndoChange {
         block: BlockNo(5),
-        version: scn.0,
+        version: scn.get(),
         place: 0,
         to: UndoRecord {
-            seq: scn.0,
+            seq: scn.get(),
             slot: xid.slot,
             itl: 1,
-            row: (row.0 % 8) as u8,
+            row: (row.get() % 8) as u8,
             mine: false,
             wrap: xid.wrap,
-            block: BlockNo(row.0 / 8),
-            version: scn.0,
+            block: BlockNo(row.get() / 8),
+            version: scn.get(),
             prev: 0,
             old_itl: UNUSED,
             old: found,
@@ -136,18 +137,21 @@ fn undo_of(xid: Xid, scn: Scn, row: RowNo, found: Value) -> UndoChange
     }
 }
 
-fn data_of(xid: Xid, scn: Scn, row: RowNo, new: Value) -> DataChange
-    ensures { result ≡ data_of xid scn.0 row new }
+fn data_of(xid: &Xid, scn: Scn, row: RowNo, new: Value) -> DataChange
+    ensures { result ≡ data_of xid.now scn row new }
 {
     DataChange {
-        block: BlockNo(row.0 / 8),
-        version: scn.0,
+        block: BlockNo(row.get() / 8),
+        version: scn.get(),
         to: RowChange {
-            row: (row.0 % 8) as u8,
+            row: (row.get() % 8) as u8,
             lock: 1,
             itl: 1,
             fresh: true,
-            slot: ItlSlot { xid, seq: scn.0 },
+            slot: ItlSlot {
+                xid: *xid,
+                seq: scn.get(),
+            },
             value: new,
         },
     }

@@ -1,10 +1,9 @@
--- A new disk in memory is a disk.
-use Rattle.std.proofs.Common.{◌≡◌, ◌≤◌, ℕ, List, length, arith}
+-- What a new disk holds is a disk.
+use Rattle.std.proofs.Common.{◌≡◌, ◌≤◌, ℕ, length, arith}
 use Rattle.std.proofs.lemmas.List.{length-replicate}
 use Rattle.std.proofs.lemmas.List.Elements.{All-replicate}
-use Rattle.rac_disk.specs.declared.plan.Planned.{Planned}
-use Rattle.rac_disk.specs.Disk.{IsDisk}
-use Rattle.rac_disk.specs.Memory.{new_disk, empty_log, zero_block, zero_entry}
+use Rattle.rac_disk.specs.Content.{IsDisk}
+use Rattle.rac_disk.specs.Memory.{new_content, empty_log, zero_block, zero_entry}
 
 pub length-zero_block : length zero_block ≡ 512
 unfolding zero_block
@@ -14,8 +13,8 @@ pub length-zero_entry : length zero_entry ≡ 32
 unfolding zero_entry
 length-zero_entry = length-replicate {A = ℕ} 32 0
 
-pub new_disk-IsDisk : (room : ℕ) (plan : List Planned) → IsDisk (new_disk room plan).disk
-new_disk-IsDisk room plan = record {
+pub new_content-IsDisk : (room : ℕ) → IsDisk (new_content room)
+new_content-IsDisk room = record {
   blocks = length-replicate 200 zero_block;
   block_sizes = All-replicate (λ block. length block ≡ 512) 200 zero_block length-zero_block;
   logs = length-replicate 8 (empty_log room);

@@ -1,3 +1,4 @@
-pub mod Disk
+pub mod Content
+pub mod State
 pub mod Calls
 pub mod Memory

@@ -7,7 +7,8 @@ use Rattle.rac_disk.specs.declared.plan.CallKind.{CallKind}
 use Rattle.rac_disk.specs.declared.plan.CallKind.TheVariants.{ReadBlock, WriteBlock, Append, Cut, LogLen}
 use Rattle.rac_disk.specs.declared.plan.CallKind.TheVariants.{ReadLog, ReadControl, WriteControl}
 use Rattle.rac_disk.specs.declared.plan.Planned.{Planned}
-use Rattle.rac_disk.specs.Disk.{DiskState, LogState, log_at, room_at, with_log}
+use Rattle.rac_disk.specs.Content.{Content, LogState, log_at, room_at, with_log}
+use Rattle.rac_disk.specs.State.{State}
 
 -- the place of a kind of call in a list of counts
 abbrev pub place_of : CallKind → ℕ
@@ -49,17 +50,21 @@ with_call calls kind = record {
 
 -- a disk in memory: what it holds, its calls, and how many appends met a full log
 pub record MemState : Type 0 where
-  pub disk : DiskState
+  pub disk : Content
   pub calls : Calls
   pub full : ℕ
 
+-- what it tells and counts
+abbrev pub state_of : MemState → State
+state_of it = record { told = Some it.disk; faults = it.calls.faults; full = it.full }
+
 -- after a call of a kind that left this on the disk
-abbrev pub after_call : MemState → CallKind → DiskState → MemState
+abbrev pub after_call : MemState → CallKind → Content → MemState
 after_call it kind disk = record { disk = disk; calls = with_call it.calls kind; full = it.full }
 
 -- What a write leaves that is planned to fail and to keep so much, or isn't planned to fail: the new, or the old
 -- where it keeps nothing.
-abbrev pub left_by_write : Option ℕ → DiskState → DiskState → DiskState
+abbrev pub left_by_write : Option ℕ → Content → Content → Content
 left_by_write None old new = new
 left_by_write (Some zero) old new = old
 left_by_write (Some (suc keep)) old new = new
@@ -70,7 +75,7 @@ piece_of None bytes = bytes
 piece_of (Some keep) bytes = take keep bytes
 
 -- how many bytes more a thread's log has room for
-abbrev pub free_at : DiskState → ℕ → ℕ
+abbrev pub free_at : Content → ℕ → ℕ
 free_at it thread = room_at it thread - length (log_at it thread)
 
 -- an append met a full log: it wasn't planned to fail, and there was less room than bytes
@@ -105,15 +110,18 @@ zero_block = replicate 512 0
 unfoldable pub zero_entry : List ℕ
 zero_entry = replicate 32 0
 
--- A new disk in memory: all its blocks and control entries are zeros, its logs are empty and have this room, and no
--- call was made.
+-- what a new disk holds: all its blocks and control entries are zeros, and its logs are empty and have this room
+abbrev pub new_content : ℕ → Content
+new_content room = record {
+  blocks = replicate 200 zero_block;
+  logs = replicate 8 (empty_log room);
+  controls = replicate 8 zero_entry;
+}
+
+-- a new disk in memory, of which no call was made
 abbrev pub new_disk : ℕ → List Planned → MemState
 new_disk room plan = record {
-  disk = record {
-    blocks = replicate 200 zero_block;
-    logs = replicate 8 (empty_log room);
-    controls = replicate 8 zero_entry;
-  };
+  disk = new_content room;
   calls = record { plan = plan; made = replicate 8 0; faults = 0 };
   full = 0;
 }

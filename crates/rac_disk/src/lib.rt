@@ -3,6 +3,7 @@
 #![tactic(auto)]
 
 mod mem_blocks;
+mod mem_content;
 mod mem_disk;
 mod mem_log;
 mod plan;
@@ -10,6 +11,7 @@ mod shared_disk;
 #[cfg(test)]
 mod tests;
 
+pub use mem_content::MemContent;
 pub use mem_disk::MemDisk;
 pub use plan::{CallKind, Planned};
 pub use shared_disk::{Failed, SharedDisk};

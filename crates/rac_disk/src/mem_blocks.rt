@@ -1,7 +1,7 @@
 ghost use Rattle.std.specs.Prelude.{◌≡◌, ◌<◌, ◌≤◌, [], length, replicate, slice_index_or, slice_set, IfOk};
 ghost use Rattle.rac_disk.specs.Memory.{zero_block};
 
-use rac_nums::NoMemory;
+use base_types::NoMemory;
 use std::alloc::Global;
 use std::marker::Model;
 

@@ -1,13 +1,11 @@
 ghost use Rattle.std.specs.Prelude.{◌≡◌, ◌<◌, ◌≤◌, ◌-◌, ◌++◌, Some, length, take, drop, min, replicate, IfOk, IsErr, is_ok, is_none};
-ghost use Rattle.rac_io.specs.Counts.{Counts};
-ghost use Rattle.rac_disk.specs.Calls.{WhereTold, ReadsBlock, WritesBlock, Appends, CutsLog, GivesLength, ReadsLog, ReadsControl, WritesControl, HasRoom, CountsAppend};
+ghost use Rattle.rac_disk.specs.Calls.{ReadsBlock, WritesBlock, Appends, CutsLog, GivesLength, ReadsLog, ReadsControl, WritesControl};
 ghost use Rattle.rac_disk.specs.Memory.{piece_of, empty_log, zero_entry};
 
-use crate::mem_blocks::MemBlocks;
-use crate::mem_log::MemLog;
+use crate::mem_content::MemContent;
 use crate::plan::{CallKind, CallLog, Planned};
 use crate::shared_disk::{Failed, SharedDisk};
-use rac_nums::{BlockNo, InstNo, NoMemory};
+use base_types::{BlockNo, InstNo, NoMemory};
 use std::alloc::Global;
 use std::marker::Model;
 
@@ -15,22 +13,20 @@ use std::marker::Model;
 /// has no room keeps the bytes that have room, and fails too.
 #[derive(Drop)]
 pub struct MemDisk {
-    blocks: MemBlocks,
-    logs: Vec<MemLog>,
-    controls: [[u8; 32]; 8],
+    content: MemContent,
     calls: CallLog,
     full: u64,
 }
 
 impl Model for MemDisk {
-    ghost use Rattle.rac_disk.specs.Disk.{IsDisk};
+    ghost use Rattle.rac_disk.specs.Content.{IsDisk};
     ghost use Rattle.rac_disk.specs.Memory.{MemState};
 
     ghost Value = { MemState };
 
-    ghost view = { λ it. record { disk = record { blocks = it.blocks; logs = it.logs.items; controls = it.controls }; calls = it.calls; full = it.full } };
+    ghost view = { λ it. record { disk = it.content; calls = it.calls; full = it.full } };
 
-    ghost invariant = { λ it. IsDisk (record { blocks = it.blocks; logs = it.logs.items; controls = it.controls }) };
+    ghost invariant = { λ it. IsDisk it.content };
 }
 
 impl MemDisk {
@@ -49,9 +45,7 @@ impl MemDisk {
         ensures { IfOk result (λ it. it ≡ new_disk log_bytes plan.items) }
     {
         Ok(MemDisk {
-            blocks: MemBlocks::new(alloc, blocks)?,
-            logs: empty_logs(alloc, log_bytes as usize)?,
-            controls: empty_controls(),
+            content: MemContent::new(alloc, blocks, log_bytes)?,
             calls: CallLog::new(plan),
             full: 0,
         })
@@ -59,20 +53,14 @@ impl MemDisk {
 }
 
 impl SharedDisk for MemDisk {
-    ghost use Rattle.rac_disk.specs.Disk.{block_at, with_block, log_at, room_at, with_log, control_at, with_control};
-    ghost use Rattle.rac_disk.specs.Memory.{planned, left_by_write, after_call, after_append, append_succeeds, free_at};
+    ghost use Rattle.rac_disk.specs.Content.{block_at, with_block, log_at, room_at, with_log, control_at, with_control};
+    ghost use Rattle.rac_disk.specs.Memory.{state_of, planned, left_by_write, after_call, after_append, append_succeeds, free_at};
 
-    ghost state = { λ it. Some it.disk };
-
-    ghost faults = { λ it. it.calls.faults };
-
-    ghost full = { λ it. it.full };
+    ghost state = { state_of };
 
     fn read_block(&mut self, b: BlockNo, out: &mut [u8; 512]) -> Result<(), Failed>
-        requires { b.0 < 200 }
-        ensures disk { WhereTold (Some self.old.disk) (Some self.new.disk) (ReadsBlock b.0 out.new result) }
-        ensures faults { Counts (IsErr result) self.old.calls.faults self.new.calls.faults }
-        ensures full { self.new.full ≡ self.old.full }
+        requires { b < 200 }
+        ensures disk { ReadsBlock b out.new result (state_of self.old) (state_of self.new) }
         ensures answer { is_ok result ≡ is_none (planned self.old.calls CallKind.ReadBlock) }
         ensures err { IsErr result → out.new ≡ out.old }
         ensures after { self.new ≡ after_call self.old CallKind.ReadBlock self.old.disk }
@@ -80,36 +68,32 @@ impl SharedDisk for MemDisk {
         if self.calls.count(CallKind::ReadBlock).is_some() {
             return Err(Failed);
         }
-        *out = *self.blocks.read(b.0);
+        *out = *self.content.block(b);
         Ok(())
     }
 
     fn write_block(&mut self, b: BlockNo, bytes: &[u8; 512]) -> Result<(), Failed>
-        requires { b.0 < 200 }
-        ensures disk { WhereTold (Some self.old.disk) (Some self.new.disk) (WritesBlock b.0 bytes.now result) }
-        ensures faults { Counts (IsErr result) self.old.calls.faults self.new.calls.faults }
-        ensures full { self.new.full ≡ self.old.full }
+        requires { b < 200 }
+        ensures disk { WritesBlock b bytes.now result (state_of self.old) (state_of self.new) }
         ensures answer { is_ok result ≡ is_none (planned self.old.calls CallKind.WriteBlock) }
-        ensures after { self.new ≡ after_call self.old CallKind.WriteBlock (left_by_write (planned self.old.calls CallKind.WriteBlock) self.old.disk (with_block self.old.disk b.0 bytes.now)) }
+        ensures after { self.new ≡ after_call self.old CallKind.WriteBlock (left_by_write (planned self.old.calls CallKind.WriteBlock) self.old.disk (with_block self.old.disk b bytes.now)) }
     {
         let keep = self.calls.count(CallKind::WriteBlock);
         if keep == Some(0) {
             return Err(Failed);
         }
-        self.blocks.write(b.0, bytes);
+        self.content.write_block(b, bytes);
         answer(keep)
     }
 
     fn append(&mut self, t: InstNo, bytes: &[u8]) -> Result<(), Failed>
-        requires { t.0 < 8 }
-        ensures disk { WhereTold (Some self.old.disk) (Some self.new.disk) (Appends t.0 bytes.now result) }
-        ensures counts { CountsAppend (IsErr result) (HasRoom (Some self.old.disk) t.0 (length bytes.now)) self.old.calls.faults self.new.calls.faults self.old.full self.new.full }
-        ensures answer { is_ok result ≡ append_succeeds (planned self.old.calls CallKind.Append) (free_at self.old.disk t.0) bytes.now }
-        ensures after { self.new ≡ after_append self.old t.0 bytes.now }
+        requires { t < 8 }
+        ensures disk { Appends t bytes.now result (state_of self.old) (state_of self.new) }
+        ensures answer { is_ok result ≡ append_succeeds (planned self.old.calls CallKind.Append) (free_at self.old.disk t) bytes.now }
+        ensures after { self.new ≡ after_append self.old t bytes.now }
     {
         let keep = self.calls.count(CallKind::Append);
-        let log = &mut self.logs[usize::from(t.0)];
-        let whole = log.append(first(bytes, keep));
+        let whole = self.content.append(t, first(bytes, keep));
         if keep.is_some() {
             return Err(Failed);
         }
@@ -121,43 +105,34 @@ impl SharedDisk for MemDisk {
     }
 
     fn cut_log(&mut self, t: InstNo, len: u64) -> Result<(), Failed>
-        requires { t.0 < 8 }
-        ensures disk { WhereTold (Some self.old.disk) (Some self.new.disk) (CutsLog t.0 len result) }
-        ensures faults { Counts (IsErr result) self.old.calls.faults self.new.calls.faults }
-        ensures full { self.new.full ≡ self.old.full }
+        requires { t < 8 }
+        ensures disk { CutsLog t len result (state_of self.old) (state_of self.new) }
         ensures answer { is_ok result ≡ is_none (planned self.old.calls CallKind.Cut) }
-        ensures after { self.new ≡ after_call self.old CallKind.Cut (left_by_write (planned self.old.calls CallKind.Cut) self.old.disk (with_log self.old.disk t.0 (take len (log_at self.old.disk t.0)))) }
+        ensures after { self.new ≡ after_call self.old CallKind.Cut (left_by_write (planned self.old.calls CallKind.Cut) self.old.disk (with_log self.old.disk t (take len (log_at self.old.disk t)))) }
     {
         let keep = self.calls.count(CallKind::Cut);
         if keep == Some(0) {
             return Err(Failed);
         }
-        let log = &mut self.logs[usize::from(t.0)];
-        log.cut(len);
+        self.content.cut(t, len);
         answer(keep)
     }
 
     fn log_len(&mut self, t: InstNo) -> Result<u64, Failed>
-        requires { t.0 < 8 }
-        ensures disk { WhereTold (Some self.old.disk) (Some self.new.disk) (GivesLength t.0 result) }
-        ensures faults { Counts (IsErr result) self.old.calls.faults self.new.calls.faults }
-        ensures full { self.new.full ≡ self.old.full }
+        requires { t < 8 }
+        ensures disk { GivesLength t result (state_of self.old) (state_of self.new) }
         ensures answer { is_ok result ≡ is_none (planned self.old.calls CallKind.LogLen) }
         ensures after { self.new ≡ after_call self.old CallKind.LogLen self.old.disk }
     {
         if self.calls.count(CallKind::LogLen).is_some() {
             return Err(Failed);
         }
-        let log = &self.logs[usize::from(t.0)];
-        Ok(log.len() as u64)
+        Ok(self.content.log(t).len() as u64)
     }
 
     fn read_log(&mut self, t: InstNo, at: u64, out: &mut [u8]) -> Result<usize, Failed>
-        requires { t.0 < 8 }
-        ensures bound { IfOk result (λ count. count ≤ length out.new) }
-        ensures disk { WhereTold (Some self.old.disk) (Some self.new.disk) (ReadsLog t.0 at out.new result) }
-        ensures faults { Counts (IsErr result) self.old.calls.faults self.new.calls.faults }
-        ensures full { self.new.full ≡ self.old.full }
+        requires { t < 8 }
+        ensures disk { ReadsLog t at out.new result (state_of self.old) (state_of self.new) }
         ensures answer { is_ok result ≡ is_none (planned self.old.calls CallKind.ReadLog) }
         ensures behind { IfOk result (λ count. drop count out.new ≡ drop count out.old) }
         ensures err { IsErr result → out.new ≡ out.old }
@@ -166,15 +141,14 @@ impl SharedDisk for MemDisk {
         if self.calls.count(CallKind::ReadLog).is_some() {
             return Err(Failed);
         }
-        let log = &self.logs[usize::from(t.0)];
-        Ok(log.read(at, out))
+        let log = self.content.log(t);
+        let start = log.len().min(at as usize);
+        Ok(copy_front(&log[start..], out))
     }
 
     fn read_control(&mut self, t: InstNo, out: &mut [u8; 32]) -> Result<(), Failed>
-        requires { t.0 < 8 }
-        ensures disk { WhereTold (Some self.old.disk) (Some self.new.disk) (ReadsControl t.0 out.new result) }
-        ensures faults { Counts (IsErr result) self.old.calls.faults self.new.calls.faults }
-        ensures full { self.new.full ≡ self.old.full }
+        requires { t < 8 }
+        ensures disk { ReadsControl t out.new result (state_of self.old) (state_of self.new) }
         ensures answer { is_ok result ≡ is_none (planned self.old.calls CallKind.ReadControl) }
         ensures err { IsErr result → out.new ≡ out.old }
         ensures after { self.new ≡ after_call self.old CallKind.ReadControl self.old.disk }
@@ -182,23 +156,21 @@ impl SharedDisk for MemDisk {
         if self.calls.count(CallKind::ReadControl).is_some() {
             return Err(Failed);
         }
-        *out = self.controls[usize::from(t.0)];
+        *out = *self.content.control(t);
         Ok(())
     }
 
     fn write_control(&mut self, t: InstNo, bytes: &[u8; 32]) -> Result<(), Failed>
-        requires { t.0 < 8 }
-        ensures disk { WhereTold (Some self.old.disk) (Some self.new.disk) (WritesControl t.0 bytes.now result) }
-        ensures faults { Counts (IsErr result) self.old.calls.faults self.new.calls.faults }
-        ensures full { self.new.full ≡ self.old.full }
+        requires { t < 8 }
+        ensures disk { WritesControl t bytes.now result (state_of self.old) (state_of self.new) }
         ensures answer { is_ok result ≡ is_none (planned self.old.calls CallKind.WriteControl) }
-        ensures after { self.new ≡ after_call self.old CallKind.WriteControl (left_by_write (planned self.old.calls CallKind.WriteControl) self.old.disk (with_control self.old.disk t.0 bytes.now)) }
+        ensures after { self.new ≡ after_call self.old CallKind.WriteControl (left_by_write (planned self.old.calls CallKind.WriteControl) self.old.disk (with_control self.old.disk t bytes.now)) }
     {
         let keep = self.calls.count(CallKind::WriteControl);
         if keep == Some(0) {
             return Err(Failed);
         }
-        self.controls[usize::from(t.0)] = *bytes;
+        self.content.write_control(t, bytes);
         answer(keep)
     }
 
@@ -209,24 +181,6 @@ impl SharedDisk for MemDisk {
     fn faults(&self) -> u64 {
         self.calls.faults()
     }
-}
-
-// A log for each thread.
-fn empty_logs(alloc: Global, room: usize) -> Result<Vec<MemLog>, NoMemory>
-    ensures { IfOk result (λ logs. logs.items ≡ replicate 8 (empty_log room)) }
-{
-    let mut logs = Vec::with_capacity(alloc, 8)?;
-    for _thread in 0..8usize {
-        logs.push(MemLog::new(alloc, room)?)?;
-    }
-    Ok(logs)
-}
-
-// A control entry for each thread.
-fn empty_controls() -> [[u8; 32]; 8]
-    ensures { result ≡ replicate 8 zero_entry }
-{
-    [[0; 32]; 8]
 }
 
 // A call that is planned to fail fails.
@@ -247,4 +201,14 @@ fn first(bytes: &[u8], keep: Option<u32>) -> &[u8]
         Some(keep) => &bytes[..bytes.len().min(keep as usize)],
         None => bytes,
     }
+}
+
+// Copies as many first bytes of `bytes` to the front of `out` as fit; how many these are.
+fn copy_front(bytes: &[u8], out: &mut [u8]) -> usize
+    ensures count { result ≡ min (length bytes.now) (length out.old) }
+    ensures copied { out.new ≡ take result bytes.now ++ drop result out.old }
+{
+    let count = bytes.len().min(out.len());
+    out[..count].copy_from_slice(&bytes[..count]);
+    count
 }

@@ -1,6 +1,6 @@
 ghost use Rattle.std.specs.Prelude.{◌≡◌, ◌-◌, ◌+◌, ◌≤◌, ◌<◌, ◌++◌, [], length, take, drop, min, IfOk, nat_le};
 
-use rac_nums::NoMemory;
+use base_types::NoMemory;
 use std::alloc::Global;
 use std::marker::Model;
 
@@ -13,7 +13,7 @@ pub struct MemLog {
 
 impl Model for MemLog {
     ghost use Rattle.std.specs.Prelude.{◌≤◌, vec_len, vec_capacity};
-    ghost use Rattle.rac_disk.specs.Disk.{LogState};
+    ghost use Rattle.rac_disk.specs.Content.{LogState};
 
     ghost Value = { LogState };
 
@@ -33,11 +33,18 @@ impl MemLog {
         })
     }
 
-    /// How many bytes it has.
-    pub fn len(&self) -> usize
-        ensures { result ≡ length self.now.bytes }
+    /// Its bytes.
+    pub fn bytes(&self) -> &[u8]
+        ensures { result.now ≡ self.now.bytes }
     {
-        self.bytes.len()
+        self.bytes.as_slice()
+    }
+
+    /// How many bytes more it has room for.
+    pub fn free(&self) -> usize
+        ensures { result ≡ self.now.room - length self.now.bytes }
+    {
+        self.room - self.bytes.len()
     }
 
     /// Appends as many first bytes of a piece as there is room for; whether these are all.
@@ -46,7 +53,7 @@ impl MemLog {
         ensures after { self.new ≡ record self.old { bytes = self.old.bytes ++ take (self.old.room - length self.old.bytes) piece.now } }
         ensures within { length self.new.bytes ≤ self.new.room }
     {
-        let free = self.room - self.bytes.len();
+        let free = self.free();
         let count = free.min(piece.len());
         self.bytes.extend_from_slice(&piece[..count]).unwrap();
         piece.len() <= free
@@ -59,23 +66,4 @@ impl MemLog {
     {
         self.bytes.truncate(len as usize);
     }
-
-    /// Copies the bytes from a place on to the front of `out`, as many as fit; how many these are.
-    pub fn read(&self, at: u64, out: &mut [u8]) -> usize
-        ensures count { result ≡ min (length self.now.bytes - at) (length out.old) }
-        ensures copied { out.new ≡ take result (drop at self.now.bytes) ++ drop result out.old }
-    {
-        let start = self.bytes.len().min(at as usize);
-        copy_front(&self.bytes[start..], out)
-    }
-}
-
-// Copies as many first bytes of `bytes` to the front of `out` as fit; how many these are.
-fn copy_front(bytes: &[u8], out: &mut [u8]) -> usize
-    ensures count { result ≡ min (length bytes.now) (length out.old) }
-    ensures copied { out.new ≡ take result bytes.now ++ drop result out.old }
-{
-    let count = bytes.len().min(out.len());
-    out[..count].copy_from_slice(&bytes[..count]);
-    count
 }

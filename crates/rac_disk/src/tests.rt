@@ -1,6 +1,6 @@
 use super::*;
 use crate::shared_disk::append_both;
-use rac_nums::{BlockNo, InstNo};
+use base_types::{BlockNo, InstNo};
 use std::process::Abort;
 use std::test::Fail;
 

@@ -5,8 +5,8 @@ ghost use Rattle.std.specs.Prelude.{◌≡◌, IsTrue, ◌↔◌};
 
 use rac_disk::MemDisk;
 use rac_io::{MemSink, MemSource};
-use rac_nums::NoMemory;
-use rac_top::{Exit, rac};
+use base_types::NoMemory;
+use rac_top::{End, Exit, rac};
 use std::alloc::{AllocError, Global};
 use std::process::ExitCode;
 use std::rt::Files;
@@ -29,9 +29,9 @@ const AUDITED: &str = "redo";
 
 /// Whether a call ended well, with just the wanted bytes.
 fn is_expected(exit: &Exit, sink: &MemSink, want: &[u8]) -> bool
-    ensures { IsTrue result ↔ (exit.now.status ≡ 0) × (sink.now.holds ≡ want.now) }
+    ensures { IsTrue result ↔ (exit.now.end ≡ End.Done) × (sink.now.holds ≡ want.now) }
 {
-    exit.status == 0 && sink.bytes() == want
+    exit.end == End::Done && sink.bytes() == want
 }
 
 /// The words of a call.

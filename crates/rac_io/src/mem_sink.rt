@@ -4,7 +4,7 @@ ghost use Rattle.rac_io.specs.Write.{FitsPiece, WriteAppends, IsStall};
 
 use crate::calls::CallLog;
 use crate::sink::{Put, Sink};
-use rac_nums::NoMemory;
+use base_types::NoMemory;
 use std::alloc::Global;
 use std::marker::Model;
 

@@ -1,11 +1,11 @@
 -- Logs of which an audit tells the history are none that no writer of records left.
 use Rattle.std.proofs.Common.{ℕ, zero, suc, List, [], ◌∷◌, Option, None, Some, IfSome, subst}
-use Rattle.rac_nums.specs.declared.redo.Redo.{Redo}
-use Rattle.rac_disk.specs.Disk.{DiskState}
-use Rattle.log_table.specs.Logs.{AreLogs, IsEnd, IsFirstWrong}
-use Rattle.log_table.proofs.OneWay.{one_way}
+use Rattle.redo_types.specs.declared.redo.Redo.{Redo}
+use Rattle.rac_disk.specs.Content.{Content}
+use Rattle.log_history.specs.Logs.{AreLogs, IsEnd, IsFirstWrong}
+use Rattle.log_history.proofs.OneWay.{one_way}
 use Rattle.log_audit.specs.Audits.{Tells, logs_in}
-use Rattle.rac_top.specs.Exits.{HasGoodLogs}
+use Rattle.rac_top.specs.Audits.{HasGoodLogs}
 
 are-good : (logs : List (List ℕ)) (threads : List (List Redo)) (rests : List (List ℕ)) → AreLogs logs threads rests → (thread place : ℕ) → IsFirstWrong logs thread place → ⊥
 are-good [] threads rests are thread place wrong = wrong
@@ -16,6 +16,6 @@ are-good (bytes ∷ logs) (records ∷ threads) (rest ∷ rests) are zero place 
 are-good (bytes ∷ logs) (records ∷ threads) (rest ∷ rests) are (suc thread) place wrong = are-good logs threads rests are.2 thread place wrong.1
 
 -- so where an audit told something of a disk, its logs are good
-pub told-good : (disk : Option DiskState) (text : List ℕ) → IfSome disk (λ it. Tells it text) → IfSome disk HasGoodLogs
+pub told-good : (disk : Option Content) (text : List ℕ) → IfSome disk (λ it. Tells it text) → IfSome disk HasGoodLogs
 told-good None text told = tt
 told-good (Some it) text told = are-good (logs_in it) told.threads told.rests told.are

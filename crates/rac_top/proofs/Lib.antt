@@ -1,4 +1,3 @@
-pub mod ReadingLemmas
-pub mod ExitLemmas
 pub mod CreationLemmas
 pub mod AuditLemmas
+pub mod ReadingLemmas

@@ -1,11 +1,12 @@
 -- What a text says, its beginning of the most bytes that are read says too.
-use Rattle.std.proofs.Common.{◌≡◌, ◌≤◌, ◌<◌, ℕ, List, Option, Some, None, length, take, IfSome, Result, ap, ◌⊎◌, inl, inr, arith, true, false}
+use Rattle.std.proofs.Common.{◌≡◌, ◌∙◌, ◌≤◌, ◌<◌, ℕ, List, [], Option, Some, None, length, take, IfSome, Result, unwrap_or, ap, subst, ◌⊎◌, inl, inr, arith, true, false, refl}
 use Rattle.std.proofs.lemmas.List.{take_all}
 use Rattle.std.proofs.lemmas.Bool.Decides.{leb_tells}
 use Rattle.script_text.specs.ScriptParts.{ScriptParts}
 use Rattle.script_text.specs.Reading.{reading}
-use Rattle.rac_top.specs.declared.reading.Unread.{Unread}
-use Rattle.rac_top.specs.Runs.{Says}
+use Rattle.rac_top.specs.declared.exit.End.{End}
+use Rattle.rac_top.specs.Reads.{Says, SaysAll}
+use Rattle.rac_top.specs.Scripts.{IsAllOf, script_of, script_of_reading}
 
 beginning-says : (most : ℕ) → ((text : List ℕ) → most ≤ length text → reading (take most text) ≡ reading text) → (text : List ℕ) → reading (take most text) ≡ reading text
 beginning-says most alike text = by_length (leb_tells most (length text))
@@ -15,7 +16,13 @@ beginning-says most alike text = by_length (leb_tells most (length text))
     by_length (inr h) = ap reading (take_all most text (omega arith))
 
 -- so what was read of the beginning is what the whole text says
-pub whole-says : (most : ℕ) → ((text : List ℕ) → most ≤ length text → reading (take most text) ≡ reading text) → (left : Option (List ℕ)) (read : List ℕ) (result : Result ScriptParts Unread)
-    → IfSome left (λ all. read ≡ take most all) → Says result (reading read) → IfSome left (λ all. Says result (reading all))
-whole-says most alike None read result first says = tt
-whole-says most alike (Some all) read result first says = rw (← beginning-says most alike all) (rw first at says)
+pub whole-says : (most : ℕ) → ((text : List ℕ) → most ≤ length text → reading (take most text) ≡ reading text) → (left : Option (List ℕ)) (read : List ℕ) (result : Result ScriptParts End)
+    → IfSome left (λ all. read ≡ take most all) → Says result (script_of read) → SaysAll left result
+whole-says most alike None read result first says = record { text = read; all = tt; says = says }
+whole-says most alike (Some all) read result first says =
+    record { text = all; all = refl; says = subst (Says result) (ap script_of first ∙ ap script_of_reading (beginning-says most alike all)) says }
+
+-- all that a source has left, or nothing where it doesn't tell
+pub all-left : (left : Option (List ℕ)) → IsAllOf left (unwrap_or left [])
+all-left None = tt
+all-left (Some all) = refl

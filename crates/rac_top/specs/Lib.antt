@@ -1,7 +1,7 @@
-pub mod Words
-pub mod Runs
+pub mod Ends
+pub mod Scripts
+pub mod Reads
 pub mod Creation
-pub mod Exits
-pub mod Refusals
-pub mod ControlLines
-pub mod Good
+pub mod Runs
+pub mod Audits
+pub mod Calls

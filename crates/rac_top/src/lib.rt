@@ -1,14 +1,16 @@
 //! The top call: it does all that the program does, over a source, a sink and a disk that are handed in.
 #![tactic(auto)]
 
-mod auditing;
+mod audit_command;
 mod creation;
 mod exit;
 mod reading;
-mod running;
+mod run_command;
 #[cfg(test)]
 mod tests;
 mod top;
 
-pub use exit::{Exit, Note};
+pub use audit_command::audit;
+pub use exit::{End, Exit};
+pub use run_command::run;
 pub use top::rac;

@@ -1,9 +1,10 @@
-use crate::{Exit, Note, rac};
-use log_table::{HistoryLine, history_of};
+use crate::{End, Exit, rac};
+use base_types::{InstNo, RowNo, Scn, Value, Xid};
+use journal::{Entry, Journal};
+use journal_check::check;
+use log_history::{HistoryLine, history_of};
 use rac_disk::{CallKind, MemDisk, Planned, SharedDisk};
 use rac_io::{MemSink, MemSource};
-use rac_nums::{InstNo, RowNo, Scn, Value, Xid};
-use row_model::{Entry, Journal, check};
 use script_text::Rule;
 use std::alloc::{AllocError, Global};
 use std::process::Abort;
@@ -20,8 +21,7 @@ struct Case<'a> {
     write_fails: &'a [u32],
     log_bytes: u64,
     disk_fails: &'a [Planned],
-    status: u8,
-    note: Note,
+    end: End,
     written: &'a str,
 }
 
@@ -33,8 +33,7 @@ const RUN: Case<'static> = Case {
     write_fails: &[],
     log_bytes: 65_536,
     disk_fails: &[],
-    status: 0,
-    note: Note::Nothing,
+    end: End::Done,
     written: "",
 };
 
@@ -106,69 +105,60 @@ const CASES: [Case<'static>; 23] = [
     },
     Case {
         script: "instances 1\nsession a on 0\na: get 32\n",
-        status: 3,
-        note: Note::Line {
-            n: 3,
+        end: End::Refused {
+            line: 3,
             rule: Rule::Range,
         },
         ..RUN
     },
     Case {
         script: "session a on 0\na: pu\n",
-        status: 3,
-        note: Note::Line {
-            n: 2,
+        end: End::Refused {
+            line: 2,
             rule: Rule::Word,
         },
         ..RUN
     },
     Case {
         script: "session a on 0\nz: get 0\n",
-        status: 3,
-        note: Note::Line {
-            n: 2,
+        end: End::Refused {
+            line: 2,
             rule: Rule::Session,
         },
         ..RUN
     },
     Case {
         script: "instances 1\nsession a on 0\na: put 0 9223372036854775808\n",
-        status: 3,
-        note: Note::Line {
-            n: 3,
+        end: End::Refused {
+            line: 3,
             rule: Rule::Number,
         },
         ..RUN
     },
     Case {
         words: &[],
-        status: 2,
-        note: Note::Usage,
+        end: End::WrongWords,
         ..RUN
     },
     Case {
         words: &["run", "--jornal"],
         script: FIRST,
-        status: 2,
-        note: Note::Usage,
+        end: End::WrongWords,
         ..RUN
     },
     Case {
         words: &["run", "--journal", "--journal"],
-        status: 2,
-        note: Note::Usage,
+        end: End::WrongWords,
         ..RUN
     },
     Case {
         words: &["audit"],
-        status: 2,
-        note: Note::Usage,
+        end: End::WrongWords,
         ..RUN
     },
     Case {
         words: &["audit", "--disk"],
-        status: 2,
-        note: Note::Usage,
+        end: End::WrongWords,
         ..RUN
     },
     Case {
@@ -180,35 +170,35 @@ const CASES: [Case<'static>; 23] = [
     Case {
         script: FIRST,
         room: 4,
-        status: 5,
+        end: End::WriteFault,
         written: "3: c",
         ..RUN
     },
     Case {
         script: SECOND,
         disk_fails: &[PART_OF_AN_APPEND],
-        status: 6,
+        end: End::DiskFault,
         written: "3: changed\n4: ORA-03113\n",
         ..RUN
     },
     Case {
         script: SECOND,
         log_bytes: 8,
-        status: 6,
+        end: End::DiskFault,
         written: "3: changed\n4: ORA-03113\n",
         ..RUN
     },
     Case {
         script: SECOND,
         disk_fails: &[FIRST_CUT],
-        status: 6,
+        end: End::NotCreated,
         ..RUN
     },
     Case {
         script: SECOND,
         room: 4,
         disk_fails: &[PART_OF_AN_APPEND],
-        status: 5,
+        end: End::WriteFault,
         written: "3: c",
         ..RUN
     },
@@ -216,23 +206,14 @@ const CASES: [Case<'static>; 23] = [
         script: SECOND,
         room: 4,
         disk_fails: &[FIRST_CUT],
-        status: 6,
+        end: End::NotCreated,
         ..RUN
     },
 ];
 
 /// Looks at how a call ended, and at what it wrote.
-fn look(
-    rt: &impl Abort,
-    number: usize,
-    exit: &Exit,
-    sink: &MemSink,
-    status: u8,
-    note: Note,
-    written: &str,
-) {
-    assert_eq!(rt; exit.status, status, "case {number}");
-    assert_eq!(rt; exit.note, note, "case {number}");
+fn look(rt: &impl Abort, number: usize, exit: &Exit, sink: &MemSink, end: &End, written: &str) {
+    assert_eq!(rt; exit.end, *end, "case {number}");
     assert_eq!(rt; sink.bytes(), written.as_bytes(), "case {number}");
 }
 
@@ -240,41 +221,33 @@ fn look(
 fn ends_as_it_should(rt: HostRuntime) -> Result<(), Fail> {
     for (number, case) in CASES.iter().enumerate() {
         let (exit, sink, _) = call(&rt, case)?;
-        look(
-            &rt,
-            number,
-            &exit,
-            &sink,
-            case.status,
-            case.note,
-            case.written,
-        );
+        look(&rt, number, &exit, &sink, &case.end, case.written);
     }
     Ok(())
 }
 
 /// How the first script ends, and what it writes, where its read of each number fails: it reads twice, its bytes and
 /// their end.
-const FAILED_READS: [(u8, &str); 5] = [
-    (4, ""),
-    (4, ""),
-    (0, FIRST_REPORT),
-    (0, FIRST_REPORT),
-    (0, FIRST_REPORT),
+const FAILED_READS: [(End, &str); 5] = [
+    (End::ReadFault, ""),
+    (End::ReadFault, ""),
+    (End::Done, FIRST_REPORT),
+    (End::Done, FIRST_REPORT),
+    (End::Done, FIRST_REPORT),
 ];
 
 /// The same where its write of each number fails: it writes once.
-const FAILED_WRITES: [(u8, &str); 5] = [
-    (5, ""),
-    (0, FIRST_REPORT),
-    (0, FIRST_REPORT),
-    (0, FIRST_REPORT),
-    (0, FIRST_REPORT),
+const FAILED_WRITES: [(End, &str); 5] = [
+    (End::WriteFault, ""),
+    (End::Done, FIRST_REPORT),
+    (End::Done, FIRST_REPORT),
+    (End::Done, FIRST_REPORT),
+    (End::Done, FIRST_REPORT),
 ];
 
 #[test]
 fn a_failed_read_is_told(rt: HostRuntime) -> Result<(), Fail> {
-    for (number, (status, written)) in FAILED_READS.iter().enumerate() {
+    for (number, (end, written)) in FAILED_READS.iter().enumerate() {
         let fails = [number as u32 + 1];
         let case = Case {
             script: FIRST,
@@ -282,14 +255,14 @@ fn a_failed_read_is_told(rt: HostRuntime) -> Result<(), Fail> {
             ..RUN
         };
         let (exit, sink, _) = call(&rt, &case)?;
-        look(&rt, number, &exit, &sink, *status, Note::Nothing, written);
+        look(&rt, number, &exit, &sink, end, written);
     }
     Ok(())
 }
 
 #[test]
 fn a_failed_write_is_told(rt: HostRuntime) -> Result<(), Fail> {
-    for (number, (status, written)) in FAILED_WRITES.iter().enumerate() {
+    for (number, (end, written)) in FAILED_WRITES.iter().enumerate() {
         let fails = [number as u32 + 1];
         let case = Case {
             script: FIRST,
@@ -297,7 +270,7 @@ fn a_failed_write_is_told(rt: HostRuntime) -> Result<(), Fail> {
             ..RUN
         };
         let (exit, sink, _) = call(&rt, &case)?;
-        look(&rt, number, &exit, &sink, *status, Note::Nothing, written);
+        look(&rt, number, &exit, &sink, end, written);
     }
     Ok(())
 }
@@ -312,7 +285,8 @@ fn nothing_runs_where_a_log_stays(rt: HostRuntime) -> Result<(), Fail> {
             ..RUN
         },
     )?;
-    assert_eq!(rt; (exit.status, exit.journal.len()), (6, 0));
+    assert_eq!(rt; exit.end, End::NotCreated);
+    assert_eq!(rt; exit.journal.len(), 0);
     Ok(())
 }
 
@@ -338,8 +312,13 @@ fn read_history(
 fn commits_in(alloc: Global, journal: &Journal) -> Result<Vec<(Xid, Scn)>, AllocError> {
     let mut commits = Vec::new(alloc);
     for entry in journal.as_slice() {
-        if let Entry::Committed { xid, c, .. } = entry {
-            commits.push((*xid, *c))?;
+        if let Entry::Committed {
+            xid,
+            commit_scn,
+            ..
+        } = entry
+        {
+            commits.push((*xid, *commit_scn))?;
         }
     }
     Ok(commits)
@@ -367,8 +346,7 @@ fn the_log_tells_the_history_wherever_it_was_cut(rt: HostRuntime) -> Result<(), 
             keep as usize,
             &exit,
             &sink,
-            6,
-            Note::Nothing,
+            &End::DiskFault,
             "3: changed\n4: ORA-03113\n",
         );
         assert!(rt; check(alloc, 32, &exit.journal)?, "keep {keep}");
@@ -377,7 +355,7 @@ fn the_log_tells_the_history_wherever_it_was_cut(rt: HostRuntime) -> Result<(), 
         let (lines, torn) = read_history(&rt, &mut disk)?;
         assert_eq!(rt; lines.len(), commits.len(), "keep {keep}");
         for (line, commit) in lines.iter().zip(&commits) {
-            assert_eq!(rt; (line.xid, line.c), *commit, "keep {keep}");
+            assert_eq!(rt; (line.xid, line.commit_scn), *commit, "keep {keep}");
             assert_eq!(rt;
                 line.changes.as_slice(),
                 [(RowNo(0), Value::Num(1))].as_slice(),
@@ -401,8 +379,7 @@ struct AuditCase<'a> {
     log: &'a [u8],
     disk_fails: &'a [Planned],
     room: usize,
-    status: u8,
-    note: Note,
+    end: End,
     written: &'a str,
 }
 
@@ -410,8 +387,7 @@ const EMPTY_LOG: AuditCase<'static> = AuditCase {
     log: &[],
     disk_fails: &[],
     room: 1000,
-    status: 0,
-    note: Note::Nothing,
+    end: End::Done,
     written: "",
 };
 
@@ -424,8 +400,7 @@ const AUDITS: [AuditCase<'static>; 5] = [
     },
     AuditCase {
         log: &[0, 5, 9],
-        status: 9,
-        note: Note::BadLog {
+        end: End::BadLog {
             thread: InstNo(0),
             place: 0,
         },
@@ -434,7 +409,7 @@ const AUDITS: [AuditCase<'static>; 5] = [
     AuditCase {
         log: &[5],
         room: 4,
-        status: 5,
+        end: End::WriteFault,
         written: "torn",
         ..EMPTY_LOG
     },
@@ -445,7 +420,7 @@ const AUDITS: [AuditCase<'static>; 5] = [
             nth: 8,
             keep: 0,
         }],
-        status: 6,
+        end: End::LogsUnread,
         ..EMPTY_LOG
     },
 ];
@@ -470,15 +445,7 @@ fn tells_what_the_logs_have(rt: HostRuntime) -> Result<(), Fail> {
         let mut disk = MemDisk::new(alloc, 200, 1000, case.disk_fails.to_vec(alloc)?)?;
         disk.append(InstNo(0), case.log)?;
         let (exit, sink) = audit(&rt, &mut disk, case.room)?;
-        look(
-            &rt,
-            number,
-            &exit,
-            &sink,
-            case.status,
-            case.note,
-            case.written,
-        );
+        look(&rt, number, &exit, &sink, &case.end, case.written);
     }
     Ok(())
 }
@@ -507,7 +474,7 @@ fn tells_what_a_run_left(rt: HostRuntime) -> Result<(), Fail> {
     for (number, (case, written)) in LEFT.iter().enumerate() {
         let (_, _, mut disk) = call(&rt, case)?;
         let (exit, sink) = audit(&rt, &mut disk, 1000)?;
-        look(&rt, number, &exit, &sink, 0, Note::Nothing, written);
+        look(&rt, number, &exit, &sink, &End::Done, written);
     }
     Ok(())
 }

@@ -5,8 +5,8 @@ use Rattle.std.proofs.Math.Seq.{take-nil}
 use Rattle.std.proofs.lemmas.Bool.{cases_lt}
 use Rattle.std.proofs.lemmas.List.{drop-take, drop_at, length-append, length-take-le, take_at, take-take}
 use Rattle.byteorder.specs.Numbers.{big_from-take}
-use Rattle.rac_nums.specs.declared.redo.Redo.{Redo}
-use Rattle.rac_nums.specs.Bytes.{number_at}
+use Rattle.redo_types.specs.declared.redo.Redo.{Redo}
+use Rattle.base_types.specs.Bytes.{number_at}
 use Rattle.part_image.specs.Cells.{Begins}
 use Rattle.redo_record.specs.Front.{CutReadsBack, IsLength, IsTorn, ReadsBack, log_bytes}
 use Rattle.redo_record.specs.Redo.{IsRedo, redo_bytes}

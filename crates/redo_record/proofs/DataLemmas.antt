@@ -1,7 +1,7 @@
 -- What is read of a change of a data block.
 use Rattle.std.proofs.Common.{◌≡◌, ℕ, ◌≤◌, List, [], ◌∷◌, ◌++◌, drop, length, slice_index, refl, sym, ◌∙◌, arith}
-use Rattle.rac_nums.specs.declared.redo.DataChange.{DataChange}
-use Rattle.rac_nums.specs.Bytes.{number_at}
+use Rattle.redo_types.specs.declared.redo.DataChange.{DataChange}
+use Rattle.base_types.specs.Bytes.{number_at}
 use Rattle.part_image.specs.Cells.{Begins, Byte, Cell, Number, StandsAt, spelled}
 use Rattle.part_image.specs.Slots.{IsItl, IsValue, bit, bits_of, flag_of, itl_bytes, itl_cells}
 use Rattle.part_image.proofs.CellLemmas.{AllFit-append, AllFit-left, AllFit-right, AllStand, all_stand_where_spelled, fit_where_all_stand, spelled_where_all_stand}
@@ -14,7 +14,7 @@ use Rattle.redo_record.proofs.Joined.{put_together, taken_apart}
 
 -- the cells before the ITL slot, and those behind it
 abbrev numbers : DataChange → List Cell
-numbers d = Byte 3 ∷ Number 2 d.block.0 ∷ Number 8 d.version ∷ Byte d.to.row ∷ Byte d.to.lock ∷ Byte d.to.itl ∷ Byte (bit d.to.fresh) ∷ []
+numbers d = Byte 3 ∷ Number 2 d.block ∷ Number 8 d.version ∷ Byte d.to.row ∷ Byte d.to.lock ∷ Byte d.to.itl ∷ Byte (bit d.to.fresh) ∷ []
 
 abbrev held : DataChange → List Cell
 held d = Byte (flag_of d.to.value) ∷ Number 8 (bits_of d.to.value) ∷ []
@@ -22,7 +22,7 @@ held d = Byte (flag_of d.to.value) ∷ Number 8 (bits_of d.to.value) ∷ []
 -- where the numbers of a change of a data block stand
 pub record DataParts (bytes : List ℕ) (d : DataChange) : Type 0 where
   pub letter : slice_index bytes 0 ≡ 3
-  pub block : number_at 2 bytes 1 ≡ d.block.0
+  pub block : number_at 2 bytes 1 ≡ d.block
   pub version : number_at 8 bytes 3 ≡ d.version
   pub row : slice_index bytes 11 ≡ d.to.row
   pub lock : slice_index bytes 12 ≡ d.to.lock
@@ -76,7 +76,7 @@ data_read bytes d fits long parts ranges slot value =
     )
 
 -- the ranges are those of five numbers
-pub data_ranges : (bytes : List ℕ) (d v : DataChange) → d.block.0 ≡ v.block.0 → d.version ≡ v.version → d.to.row ≡ v.to.row → d.to.lock ≡ v.to.lock → d.to.itl ≡ v.to.itl → slice_index bytes 0 ≡ 3 → IsDataChange v → HasDataRanges bytes d
+pub data_ranges : (bytes : List ℕ) (d v : DataChange) → d.block ≡ v.block → d.version ≡ v.version → d.to.row ≡ v.to.row → d.to.lock ≡ v.to.lock → d.to.itl ≡ v.to.itl → slice_index bytes 0 ≡ 3 → IsDataChange v → HasDataRanges bytes d
 data_ranges bytes d v block version row lock itl letter is = record {
   letter = letter;
   version = omega (arith, is.version);

@@ -1,7 +1,7 @@
 -- What is read of a change of a header.
 use Rattle.std.proofs.Common.{◌≡◌, ℕ, ◌≤◌, List, [], ◌∷◌, drop, length, slice_index, refl, sym, ◌∙◌, arith}
-use Rattle.rac_nums.specs.declared.redo.HeadChange.{HeadChange}
-use Rattle.rac_nums.specs.Bytes.{number_at}
+use Rattle.redo_types.specs.declared.redo.HeadChange.{HeadChange}
+use Rattle.base_types.specs.Bytes.{number_at}
 use Rattle.part_image.specs.Cells.{Begins, Byte, Cell, Number, StandsAt, spelled}
 use Rattle.part_image.specs.Undo.{IsTxnSlot, txn_slot_bytes, txn_slot_cells}
 use Rattle.part_image.proofs.CellLemmas.{AllFit-append, AllFit-left, AllStand, all_stand_where_spelled, fit_where_all_stand, spelled_where_all_stand}
@@ -13,12 +13,12 @@ use Rattle.redo_record.proofs.Joined.{put_together, taken_apart}
 
 -- the cells before the slot
 abbrev numbers : HeadChange → List Cell
-numbers h = Byte 1 ∷ Number 2 h.block.0 ∷ Number 8 h.version ∷ Byte h.slot ∷ Number 8 h.next ∷ []
+numbers h = Byte 1 ∷ Number 2 h.block ∷ Number 8 h.version ∷ Byte h.slot ∷ Number 8 h.next ∷ []
 
 -- where the numbers of a change of a header stand
 pub record HeadParts (bytes : List ℕ) (h : HeadChange) : Type 0 where
   pub letter : slice_index bytes 0 ≡ 1
-  pub block : number_at 2 bytes 1 ≡ h.block.0
+  pub block : number_at 2 bytes 1 ≡ h.block
   pub version : number_at 8 bytes 3 ≡ h.version
   pub slot : slice_index bytes 11 ≡ h.slot
   pub next : number_at 8 bytes 12 ≡ h.next

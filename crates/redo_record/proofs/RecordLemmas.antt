@@ -1,12 +1,12 @@
 -- A record is its start and its changes.
 use Rattle.std.proofs.Common.{◌≡◌, ℕ, ◌+◌, ◌≤◌, List, ◌++◌, drop, length, refl, sym, ap, subst, ◌∙◌, arith, Option, None, Some, IfSome}
 use Rattle.std.proofs.lemmas.List.{append_assoc, length-append}
-use Rattle.rac_nums.specs.Bytes.{Puts}
-use Rattle.rac_nums.specs.declared.redo.DataChange.{DataChange}
-use Rattle.rac_nums.specs.declared.redo.Redo.{Redo}
-use Rattle.rac_nums.specs.declared.redo.RedoKind.{RedoKind}
-use Rattle.rac_nums.specs.declared.redo.RedoKind.TheVariants.{Change, Commit, Lock, RollbackEnd, StepBack}
-use Rattle.rac_nums.specs.declared.redo.UndoChange.{UndoChange}
+use Rattle.base_types.specs.Bytes.{Puts}
+use Rattle.redo_types.specs.declared.redo.DataChange.{DataChange}
+use Rattle.redo_types.specs.declared.redo.Redo.{Redo}
+use Rattle.redo_types.specs.declared.redo.RedoKind.{RedoKind}
+use Rattle.redo_types.specs.declared.redo.RedoKind.TheVariants.{Change, Commit, Lock, RollbackEnd, StepBack}
+use Rattle.redo_types.specs.declared.redo.UndoChange.{UndoChange}
 use Rattle.part_image.specs.Cells.{AllFit, Begins, Cell, StandsAt, spelled}
 use Rattle.part_image.proofs.CellLemmas.{AllFit-append, AllFit-left}
 use Rattle.part_image.proofs.Numbers.{IsBytes, IsBytes-drop}

@@ -1,9 +1,9 @@
 -- What is read before the changes of a record.
 use Rattle.std.proofs.Common.{◌≡◌, ℕ, ◌≤◌, List, length, slice_index, refl, sym, ap, ◌∙◌}
-use Rattle.rac_nums.specs.declared.names.Xid.{Xid}
-use Rattle.rac_nums.specs.declared.redo.RedoKind.{RedoKind}
-use Rattle.rac_nums.specs.declared.redo.RedoKind.TheVariants.{Change, Commit, Lock, RollbackEnd, StepBack}
-use Rattle.rac_nums.specs.Bytes.{number_at, xid_at}
+use Rattle.base_types.specs.declared.names.Xid.{Xid}
+use Rattle.redo_types.specs.declared.redo.RedoKind.{RedoKind}
+use Rattle.redo_types.specs.declared.redo.RedoKind.TheVariants.{Change, Commit, Lock, RollbackEnd, StepBack}
+use Rattle.base_types.specs.Bytes.{number_at, xid_at}
 use Rattle.part_image.specs.Cells.{Begins, spelled}
 use Rattle.part_image.proofs.CellLemmas.{AllStand, all_stand_where_spelled, fit_where_all_stand, spelled_where_all_stand}
 use Rattle.part_image.proofs.Numbers.{IsBytes}
@@ -44,7 +44,7 @@ pub record StartParts (bytes : List ℕ) (s : Start) : Type 0 where
   pub kind : slice_index bytes 2 ≡ kind_number s.kind
   pub form : HasForm s.kind bytes
   pub xid : xid_at bytes 4 ≡ s.xid
-  pub scn : number_at 8 bytes 12 ≡ s.scn.0
+  pub scn : number_at 8 bytes 12 ≡ s.scn
   pub seq : number_at 8 bytes 20 ≡ s.seq
 
 pub start_parts : (bytes : List ℕ) (s : Start) → IsStart s → Begins bytes (spelled (start_cells s)) → StartParts bytes s
@@ -57,7 +57,7 @@ start_parts bytes s is begins =
 -- what was read is a start whose bytes stand there
 pub start_read : (bytes : List ℕ) (s : Start) → IsBytes bytes → 28 ≤ length bytes → StartParts bytes s → HasRanges s → IsStart s × Begins bytes (spelled (start_cells s))
 start_read bytes s fits long parts ranges =
-    let seg = ap (λ (x : Xid). x.seg.0) parts.xid in
+    let seg = ap (λ (x : Xid). x.seg) parts.xid in
     let slot = ap (λ (x : Xid). x.slot) parts.xid in
     let wrap = ap (λ (x : Xid). x.wrap) parts.xid in
     let all : AllStand bytes 0 (start_cells s) =
@@ -65,7 +65,7 @@ start_read bytes s fits long parts ranges =
     (record { fits = fit_where_all_stand bytes 0 (start_cells s) fits all; ranges = ranges }, spelled_where_all_stand bytes 0 (start_cells s) fits long all)
 
 -- two starts with the same numbers are the same
-pub start_same : (v w : Start) → v.kind ≡ w.kind → v.xid ≡ w.xid → v.scn.0 ≡ w.scn.0 → v.seq ≡ w.seq → v ≡ w
+pub start_same : (v w : Start) → v.kind ≡ w.kind → v.xid ≡ w.xid → v.scn ≡ w.scn → v.seq ≡ w.seq → v ≡ w
 start_same v w kind xid scn seq = rw (kind, xid, scn, seq) refl
 
 pub one_start : (bytes : List ℕ) (v w : Start) → IsStart v → IsStart w → Begins bytes (spelled (start_cells v)) → Begins bytes (spelled (start_cells w)) → v ≡ w

@@ -1,7 +1,7 @@
 -- What is read of a change of an undo block.
 use Rattle.std.proofs.Common.{◌≡◌, ℕ, ◌≤◌, List, [], ◌∷◌, drop, length, slice_index, refl, sym, ◌∙◌, arith}
-use Rattle.rac_nums.specs.declared.redo.UndoChange.{UndoChange}
-use Rattle.rac_nums.specs.Bytes.{number_at}
+use Rattle.redo_types.specs.declared.redo.UndoChange.{UndoChange}
+use Rattle.base_types.specs.Bytes.{number_at}
 use Rattle.part_image.specs.Cells.{Begins, Byte, Cell, Number, StandsAt, spelled}
 use Rattle.part_image.specs.Undo.{IsUndoRecord, undo_record_bytes, undo_record_cells}
 use Rattle.part_image.proofs.CellLemmas.{AllFit-append, AllFit-left, AllStand, all_stand_where_spelled, fit_where_all_stand, spelled_where_all_stand}
@@ -13,12 +13,12 @@ use Rattle.redo_record.proofs.Joined.{long_where_begun, put_together, taken_apar
 
 -- the cells before the undo record
 abbrev numbers : UndoChange → List Cell
-numbers u = Byte 2 ∷ Number 2 u.block.0 ∷ Number 8 u.version ∷ Byte u.place ∷ []
+numbers u = Byte 2 ∷ Number 2 u.block ∷ Number 8 u.version ∷ Byte u.place ∷ []
 
 -- where the numbers of a change of an undo block stand
 pub record UndoParts (bytes : List ℕ) (u : UndoChange) : Type 0 where
   pub letter : slice_index bytes 0 ≡ 2
-  pub block : number_at 2 bytes 1 ≡ u.block.0
+  pub block : number_at 2 bytes 1 ≡ u.block
   pub version : number_at 8 bytes 3 ≡ u.version
   pub place : slice_index bytes 11 ≡ u.place
   pub to : StandsAt bytes 12 (undo_record_bytes u.to)

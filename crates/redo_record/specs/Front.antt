@@ -1,8 +1,8 @@
 -- What stands at the front of a redo log, and what a log that was cut reads back as.
 use Rattle.std.specs.Prelude.{◌≡◌, ℕ, suc, ◌<◌, ◌≤◌, ◌⊎◌, List, [], ◌∷◌, length, drop, take}
 use Rattle.std.specs.List.{flat_map}
-use Rattle.rac_nums.specs.Bytes.{number_at}
-use Rattle.rac_nums.specs.declared.redo.Redo.{Redo}
+use Rattle.base_types.specs.Bytes.{number_at}
+use Rattle.redo_types.specs.declared.redo.Redo.{Redo}
 use Rattle.part_image.specs.Cells.{Begins}
 use Rattle.redo_record.specs.declared.front.Front.{Front}
 use Rattle.redo_record.specs.declared.front.Front.TheVariants.{Bad, Torn, Whole}

@@ -1,12 +1,12 @@
 -- The parts of a redo record: what stands before its changes, and the changes that not each kind has.
 use Rattle.std.specs.Prelude.{◌≡◌, ℕ, ◌<◌, ◌≤◌, List, [], ◌∷◌, ◌++◌, drop, replicate, slice_index, take, Option, None, Some, IfSome}
-use Rattle.rac_nums.specs.Bytes.{number_at}
-use Rattle.rac_nums.specs.declared.redo.DataChange.{DataChange}
-use Rattle.rac_nums.specs.declared.redo.HeadChange.{HeadChange}
-use Rattle.rac_nums.specs.declared.redo.Redo.{Redo}
-use Rattle.rac_nums.specs.declared.redo.RedoKind.{RedoKind}
-use Rattle.rac_nums.specs.declared.redo.RedoKind.TheVariants.{Change, Commit, Lock, RollbackEnd, StepBack}
-use Rattle.rac_nums.specs.declared.redo.UndoChange.{UndoChange}
+use Rattle.base_types.specs.Bytes.{number_at}
+use Rattle.redo_types.specs.declared.redo.DataChange.{DataChange}
+use Rattle.redo_types.specs.declared.redo.HeadChange.{HeadChange}
+use Rattle.redo_types.specs.declared.redo.Redo.{Redo}
+use Rattle.redo_types.specs.declared.redo.RedoKind.{RedoKind}
+use Rattle.redo_types.specs.declared.redo.RedoKind.TheVariants.{Change, Commit, Lock, RollbackEnd, StepBack}
+use Rattle.redo_types.specs.declared.redo.UndoChange.{UndoChange}
 use Rattle.part_image.specs.Cells.{Cell, Byte, Number, AllFit}
 use Rattle.part_image.specs.Slots.{xid_cells}
 use Rattle.redo_record.specs.declared.start.Start.{Start}
@@ -21,12 +21,12 @@ IsReadKind number None = (kind : RedoKind) → number ≡ kind_number kind → �
 abbrev pub start_cells : Start → List Cell
 start_cells s =
     Number 2 (length_of s.kind) ∷ Byte (kind_number s.kind) ∷ Byte (change_count s.kind)
-    ∷ xid_cells s.xid ++ Number 8 s.scn.0 ∷ Number 8 s.seq ∷ []
+    ∷ xid_cells s.xid ++ Number 8 s.scn ∷ Number 8 s.seq ∷ []
 
 -- the numbers of a record are in their ranges
 pub record HasRanges (s : Start) : Type 0 where
   pub xid : IsXid s.xid
-  pub scn : 1 ≤ s.scn.0
+  pub scn : 1 ≤ s.scn
   pub seq : NamesUndo s.kind s.seq
 
 -- the length and the count are those of the kind, and the bytes that no number has are zero
@@ -90,7 +90,7 @@ HasUndoRanges bytes u = (slice_index bytes 0 ≡ 2) × (1 ≤ u.version) × (u.p
 pub record HasDataRanges (bytes : List ℕ) (d : DataChange) : Type 0 where
   pub letter : slice_index bytes 0 ≡ 3
   pub version : 1 ≤ d.version
-  pub block : d.block.0 < 64
+  pub block : d.block < 64
   pub row : d.to.row < 8
   pub lock : d.to.lock ≤ 4
   pub some_itl : 1 ≤ d.to.itl

@@ -1,12 +1,12 @@
 -- Redo records as bytes.
 use Rattle.std.specs.Prelude.{◌≡◌, ℕ, ◌<◌, ◌≤◌, List, [], ◌∷◌, ◌++◌, Option, None, Some, IfSome}
-use Rattle.rac_nums.specs.declared.names.Xid.{Xid}
-use Rattle.rac_nums.specs.declared.redo.DataChange.{DataChange}
-use Rattle.rac_nums.specs.declared.redo.HeadChange.{HeadChange}
-use Rattle.rac_nums.specs.declared.redo.Redo.{Redo}
-use Rattle.rac_nums.specs.declared.redo.RedoKind.{RedoKind}
-use Rattle.rac_nums.specs.declared.redo.RedoKind.TheVariants.{Change, Commit, Lock, RollbackEnd, StepBack}
-use Rattle.rac_nums.specs.declared.redo.UndoChange.{UndoChange}
+use Rattle.base_types.specs.declared.names.Xid.{Xid}
+use Rattle.redo_types.specs.declared.redo.DataChange.{DataChange}
+use Rattle.redo_types.specs.declared.redo.HeadChange.{HeadChange}
+use Rattle.redo_types.specs.declared.redo.Redo.{Redo}
+use Rattle.redo_types.specs.declared.redo.RedoKind.{RedoKind}
+use Rattle.redo_types.specs.declared.redo.RedoKind.TheVariants.{Change, Commit, Lock, RollbackEnd, StepBack}
+use Rattle.redo_types.specs.declared.redo.UndoChange.{UndoChange}
 use Rattle.part_image.specs.Cells.{Cell, Byte, Number, AllFit, spelled}
 use Rattle.part_image.specs.Slots.{IsItl, IsValue, bit, bits_of, flag_of, itl_cells, xid_cells}
 use Rattle.part_image.specs.Undo.{IsTxnSlot, IsUndoRecord, txn_slot_cells, undo_record_cells}
@@ -37,16 +37,16 @@ length_of RollbackEnd = 88
 
 -- A change of a header has 60 bytes.
 abbrev pub head_cells : HeadChange → List Cell
-head_cells h = Byte 1 ∷ Number 2 h.block.0 ∷ Number 8 h.version ∷ Byte h.slot ∷ Number 8 h.next ∷ txn_slot_cells h.to
+head_cells h = Byte 1 ∷ Number 2 h.block ∷ Number 8 h.version ∷ Byte h.slot ∷ Number 8 h.next ∷ txn_slot_cells h.to
 
 -- A change of an undo block has 108 bytes.
 abbrev pub undo_cells : UndoChange → List Cell
-undo_cells u = Byte 2 ∷ Number 2 u.block.0 ∷ Number 8 u.version ∷ Byte u.place ∷ undo_record_cells u.to
+undo_cells u = Byte 2 ∷ Number 2 u.block ∷ Number 8 u.version ∷ Byte u.place ∷ undo_record_cells u.to
 
 -- A change of a data block has 40 bytes.
 abbrev pub data_cells : DataChange → List Cell
 data_cells d =
-    Byte 3 ∷ Number 2 d.block.0 ∷ Number 8 d.version ∷ Byte d.to.row ∷ Byte d.to.lock ∷ Byte d.to.itl ∷ Byte (bit d.to.fresh)
+    Byte 3 ∷ Number 2 d.block ∷ Number 8 d.version ∷ Byte d.to.row ∷ Byte d.to.lock ∷ Byte d.to.itl ∷ Byte (bit d.to.fresh)
     ∷ itl_cells d.to.slot ++ Byte (flag_of d.to.value) ∷ Number 8 (bits_of d.to.value) ∷ []
 
 -- the cells of a change that not each kind has
@@ -59,7 +59,7 @@ cells_of cells None = []
 abbrev pub redo_cells : Redo → List Cell
 redo_cells r =
     Number 2 (length_of r.kind) ∷ Byte (kind_number r.kind) ∷ Byte (change_count r.kind)
-    ∷ xid_cells r.xid ++ Number 8 r.scn.0 ∷ Number 8 r.seq
+    ∷ xid_cells r.xid ++ Number 8 r.scn ∷ Number 8 r.seq
     ∷ head_cells r.head ++ cells_of undo_cells r.undo ++ cells_of data_cells r.row
 
 -- the spelling of a record
@@ -94,7 +94,7 @@ NamesUndo RollbackEnd seq = seq ≡ 0
 
 -- the name of a transaction that began
 pub record IsXid (x : Xid) : Type 0 where
-  pub segment : x.seg.0 < 8
+  pub segment : x.seg < 8
   pub slot : x.slot < 8
   pub wrap : 1 ≤ x.wrap
 
@@ -117,7 +117,7 @@ pub record IsUndoChange (u : UndoChange) : Type 0 where
 pub record IsDataChange (d : DataChange) : Type 0 where
   pub fits : AllFit (data_cells d)
   pub version : 1 ≤ d.version
-  pub block : d.block.0 < 64
+  pub block : d.block < 64
   pub row : d.to.row < 8
   pub lock : d.to.lock ≤ 4
   pub some_itl : 1 ≤ d.to.itl
@@ -130,7 +130,7 @@ pub record IsRedo (r : Redo) : Type 0 where
   pub fits : AllFit (redo_cells r)
   pub changes : HasChanges r.kind r
   pub xid : IsXid r.xid
-  pub scn : 1 ≤ r.scn.0
+  pub scn : 1 ≤ r.scn
   pub seq : NamesUndo r.kind r.seq
   pub head : IsHeadChange r.head
   pub undo : IfSome r.undo IsUndoChange

@@ -1,11 +1,12 @@
 ghost use Rattle.std.specs.Prelude.{◌≡◌, ◌≤◌, ◌+◌, ◌↔◌, true, drop, length};
-ghost use Rattle.rac_nums.specs.Bytes.{Puts};
+ghost use Rattle.base_types.specs.Bytes.{Puts};
 ghost use Rattle.part_image.specs.Cells.{Reads, spelled};
 ghost use Rattle.redo_record.specs.Parts.{HasDataRanges};
 ghost use Rattle.redo_record.specs.Redo.{IsDataChange, cells_of, data_cells};
 
+use base_types::{BlockNo, get_u16, get_u64, put_u16, put_u64};
 use part_image::{bit_of, bits_of, fact_of, flag_of, put_itl, put_u8, read_itl, value_of};
-use rac_nums::{BlockNo, DataChange, RowChange, get_u16, get_u64, put_u16, put_u64};
+use redo_types::{DataChange, RowChange};
 
 /// The change of a data block in the 40 bytes from a place on; `None` where they are none.
 pub fn read_data(bytes: &[u8], at: usize) -> Option<DataChange>
@@ -62,7 +63,7 @@ fn put_some_data(out: &mut [u8], at: usize, change: &DataChange)
     ensures { Puts out.old out.new at (spelled (data_cells change.now)) }
 {
     put_u8(out, at, 3);
-    put_u16(out, at + 1, change.block.0);
+    put_u16(out, at + 1, change.block.get());
     put_u64(out, at + 3, change.version);
     put_u8(out, at + 11, change.to.row);
     put_u8(out, at + 12, change.to.lock);
@@ -80,7 +81,7 @@ fn has_ranges(bytes: &[u8], change: &DataChange) -> bool
 {
     bytes[0] == 3
         && change.version >= 1
-        && change.block.0 < 64
+        && change.block.get() < 64
         && change.to.row < 8
         && change.to.lock <= 4
         && change.to.itl >= 1

@@ -1,11 +1,12 @@
 ghost use Rattle.std.specs.Prelude.{◌≡◌, ◌≤◌, length};
-ghost use Rattle.rac_nums.specs.declared.redo.Redo.{Redo};
+ghost use Rattle.redo_types.specs.declared.redo.Redo.{Redo};
 ghost use Rattle.redo_record.specs.declared.front.Front.TheVariants.{Torn, Whole};
 ghost use Rattle.redo_record.specs.Front.{BeginsWith, IsFront, IsTorn};
 ghost use Rattle.redo_record.specs.Redo.{redo_bytes};
 
 use crate::record::read_record;
-use rac_nums::{Redo, get_u16};
+use base_types::get_u16;
+use redo_types::Redo;
 
 /// What stands at the front of a redo log.
 #[derive(Clone, Copy, Debug, PartialEq, Eq)]

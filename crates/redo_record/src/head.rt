@@ -1,11 +1,12 @@
 ghost use Rattle.std.specs.Prelude.{◌≡◌, ◌≤◌, ◌+◌, ◌↔◌, true, drop, length};
-ghost use Rattle.rac_nums.specs.Bytes.{Puts};
+ghost use Rattle.base_types.specs.Bytes.{Puts};
 ghost use Rattle.part_image.specs.Cells.{Reads, spelled};
 ghost use Rattle.redo_record.specs.Parts.{HasHeadRanges};
 ghost use Rattle.redo_record.specs.Redo.{IsHeadChange, head_cells};
 
+use base_types::{BlockNo, get_u16, get_u64, put_u16, put_u64};
 use part_image::{put_txn_slot, put_u8, read_txn_slot};
-use rac_nums::{BlockNo, HeadChange, get_u16, get_u64, put_u16, put_u64};
+use redo_types::HeadChange;
 
 /// The change of a header in the 60 bytes from a place on; `None` where they are none.
 pub fn read_head(bytes: &[u8], at: usize) -> Option<HeadChange>
@@ -42,7 +43,7 @@ pub fn put_head(out: &mut [u8], at: usize, change: &HeadChange)
     ensures { Puts out.old out.new at (spelled (head_cells change.now)) }
 {
     put_u8(out, at, 1);
-    put_u16(out, at + 1, change.block.0);
+    put_u16(out, at + 1, change.block.get());
     put_u64(out, at + 3, change.version);
     put_u8(out, at + 11, change.slot);
     put_u64(out, at + 12, change.next);

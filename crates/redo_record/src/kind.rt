@@ -2,7 +2,7 @@ ghost use Rattle.std.specs.Prelude.{◌≡◌};
 ghost use Rattle.redo_record.specs.Parts.{IsReadKind};
 ghost use Rattle.redo_record.specs.Redo.{change_count, kind_number, length_of};
 
-use rac_nums::RedoKind;
+use redo_types::RedoKind;
 
 /// The kind of record that has this number; `None` where none has.
 pub fn kind_of(number: u8) -> Option<RedoKind>

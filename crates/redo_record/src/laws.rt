@@ -1,6 +1,6 @@
 ghost use Rattle.std.specs.Prelude.{ℕ, List};
 ghost use Rattle.std.specs.List.{AllByRecursion};
-ghost use Rattle.rac_nums.specs.declared.redo.Redo.{Redo};
+ghost use Rattle.redo_types.specs.declared.redo.Redo.{Redo};
 ghost use Rattle.redo_record.specs.Front.{CutReadsBack};
 ghost use Rattle.redo_record.specs.Redo.{IsRedo};
 

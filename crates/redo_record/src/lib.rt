@@ -14,5 +14,5 @@ mod undo;
 
 pub use front::{Front, read_front};
 pub use laws::a_cut_log_reads_back;
-pub use rac_nums::{DataChange, HeadChange, Redo, RedoKind, UndoChange};
 pub use record::write;
+pub use redo_types::{DataChange, HeadChange, Redo, RedoKind, UndoChange};

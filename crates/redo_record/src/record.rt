@@ -1,5 +1,5 @@
 ghost use Rattle.std.specs.Prelude.{◌≡◌, ◌≤◌, drop, length};
-ghost use Rattle.rac_nums.specs.Bytes.{Puts, number_at};
+ghost use Rattle.base_types.specs.Bytes.{Puts, number_at};
 ghost use Rattle.part_image.specs.Cells.{Reads};
 ghost use Rattle.redo_record.specs.Parts.{IsRowOf, IsUndoOf, row_place};
 ghost use Rattle.redo_record.specs.Redo.{IsRedo, cells_of, data_cells, length_of, redo_bytes, redo_cells, undo_cells};
@@ -9,7 +9,7 @@ use crate::head::{put_head, read_head};
 use crate::kind::length_of;
 use crate::start::{put_start, read_start};
 use crate::undo::{put_undo, read_undo};
-use rac_nums::{DataChange, Redo, RedoKind, UndoChange};
+use redo_types::{DataChange, Redo, RedoKind, UndoChange};
 
 /// Writes a record at the front of the buffer; how many bytes it has: 236, 128 or 88.
 pub fn write(redo: &Redo, out: &mut [u8; 236]) -> u16

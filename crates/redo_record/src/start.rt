@@ -1,12 +1,13 @@
 ghost use Rattle.std.specs.Prelude.{◌≡◌, ◌≤◌, ◌+◌, ◌↔◌, true, length};
-ghost use Rattle.rac_nums.specs.Bytes.{Puts};
+ghost use Rattle.base_types.specs.Bytes.{Puts};
 ghost use Rattle.part_image.specs.Cells.{Reads, spelled};
 ghost use Rattle.redo_record.specs.Parts.{HasForm, HasRanges, IsStart, start_cells, start_of};
 ghost use Rattle.redo_record.specs.Redo.{IsXid, NamesUndo};
 
 use crate::kind::{count_of, kind_of, length_of, number_of};
+use base_types::{Scn, Xid, get_u16, get_u64, get_xid, put_u16, put_u64, put_xid};
 use part_image::{are_zeros, put_u8};
-use rac_nums::{Redo, RedoKind, Scn, Xid, get_u16, get_u64, get_xid, put_u16, put_u64, put_xid};
+use redo_types::{Redo, RedoKind};
 
 /// What stands before the changes of a record.
 #[derive(Clone, Copy)]
@@ -47,7 +48,7 @@ pub fn put_start(out: &mut [u8], at: usize, redo: &Redo)
     put_u8(out, at + 2, number_of(redo.kind));
     put_u8(out, at + 3, count_of(redo.kind));
     put_xid(out, at + 4, redo.xid);
-    put_u64(out, at + 12, redo.scn.0);
+    put_u64(out, at + 12, redo.scn.get());
     put_u64(out, at + 20, redo.seq);
 }
 
@@ -63,13 +64,13 @@ fn has_form(kind: RedoKind, bytes: &[u8]) -> bool
 fn has_ranges(start: &Start) -> bool
     ensures { (result ≡ true) ↔ HasRanges start.now }
 {
-    is_xid(start.xid) && start.scn.0 >= 1 && names_undo(start.kind, start.seq)
+    is_xid(start.xid) && start.scn.get() >= 1 && names_undo(start.kind, start.seq)
 }
 
 fn is_xid(xid: Xid) -> bool
     ensures { (result ≡ true) ↔ IsXid xid }
 {
-    xid.seg.0 < 8 && xid.slot < 8 && xid.wrap >= 1
+    xid.seg.get() < 8 && xid.slot < 8 && xid.wrap >= 1
 }
 
 // Whether a record of the kind may have this sequence number of an undo record.

@@ -1,9 +1,8 @@
 ghost use Rattle.redo_record.specs.Redo.{IsRedo};
 
 use super::*;
-use rac_nums::{
-    BlockNo, InstNo, ItlSlot, RowChange, Scn, TxnSlot, TxnState, UndoRecord, Value, Xid,
-};
+use base_types::{BlockNo, InstNo, Scn, Value, Xid};
+use redo_types::{ItlSlot, RowChange, TxnSlot, TxnState, UndoRecord};
 use std::process::Abort;
 
 // So many bytes of a record that have a value, and the lowest and the highest value that each of them may
@@ -354,14 +353,14 @@ fn with_commit(change: &Sample) -> [u8; 324] {
 }
 
 // The front of the log, cut at each place, is this record or torn.
-fn expect_cuts(rt: &impl Abort, log: &[u8], record: Redo, length: u16) {
+fn expect_cuts(rt: &impl Abort, log: &[u8], record: &Redo, length: u16) {
     for cut in 1..=log.len() {
-        let want = if cut < usize::from(length) {
-            Front::Torn
+        let front = read_front(&log[..cut]);
+        if cut < usize::from(length) {
+            assert_eq!(rt; front, Front::Torn, "cut at {cut}");
         } else {
-            Front::Whole(record, length)
-        };
-        assert_eq!(rt; read_front(&log[..cut]), want, "cut at {cut}");
+            assert_eq!(rt; front, Front::Whole(*record, length), "cut at {cut}");
+        }
     }
 }
 
@@ -369,6 +368,6 @@ fn expect_cuts(rt: &impl Abort, log: &[u8], record: Redo, length: u16) {
 fn reads_a_log_cut_at_each_place(rt: HostRuntime) {
     let change = laid_out(&rt, (1, 1, 1, 2), 3, 236, OF_CHANGE);
     let log = with_commit(&change);
-    expect_cuts(&rt, &log, CHANGE, 236);
-    expect_cuts(&rt, &log[236..], COMMIT, 88);
+    expect_cuts(&rt, &log, &CHANGE, 236);
+    expect_cuts(&rt, &log[236..], &COMMIT, 88);
 }

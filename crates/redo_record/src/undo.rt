@@ -1,11 +1,12 @@
 ghost use Rattle.std.specs.Prelude.{◌≡◌, ◌≤◌, ◌+◌, ◌↔◌, true, drop, length};
-ghost use Rattle.rac_nums.specs.Bytes.{Puts};
+ghost use Rattle.base_types.specs.Bytes.{Puts};
 ghost use Rattle.part_image.specs.Cells.{Reads, spelled};
 ghost use Rattle.redo_record.specs.Parts.{HasUndoRanges};
 ghost use Rattle.redo_record.specs.Redo.{IsUndoChange, cells_of, undo_cells};
 
+use base_types::{BlockNo, get_u16, get_u64, put_u16, put_u64};
 use part_image::{put_u8, put_undo_record, read_undo_record};
-use rac_nums::{BlockNo, UndoChange, get_u16, get_u64, put_u16, put_u64};
+use redo_types::UndoChange;
 
 /// The change of an undo block in the 108 bytes from a place on; `None` where they are none.
 pub fn read_undo(bytes: &[u8], at: usize) -> Option<UndoChange>
@@ -56,7 +57,7 @@ fn put_some_undo(out: &mut [u8], at: usize, change: &UndoChange)
     ensures { Puts out.old out.new at (spelled (undo_cells change.now)) }
 {
     put_u8(out, at, 2);
-    put_u16(out, at + 1, change.block.0);
+    put_u16(out, at + 1, change.block.get());
     put_u64(out, at + 3, change.version);
     put_u8(out, at + 11, change.place);
     put_undo_record(out, at + 12, &change.to);

@@ -1,12 +1,11 @@
-ghost use Rattle.std.specs.Prelude.{◌≡◌, ◌^◌, ◌+◌, ◌<◌, ◌≤◌, ◌⊎◌, [], length, IfErr, IfOk, IsErr, OnErr, OnOk};
-ghost use Rattle.rac_io.specs.Counts.{Rose};
-ghost use Rattle.rac_disk.specs.Calls.{Appends, CountsAppend, HasRoom as LogHasRoom, WhereTold};
+ghost use Rattle.std.specs.Prelude.{◌≡◌, ◌^◌, ◌+◌, ◌<◌, ◌≤◌, [], length, IfOk, OnErr, OnOk};
 ghost use Rattle.redo_record.specs.Redo.{IsRedo, length_of};
-ghost use Rattle.redo_thread.specs.Thread.{HasRoom, appended, end_of, forced};
+ghost use Rattle.redo_thread.specs.Thread.{Forces, HasRoom, appended, end_of};
 
+use base_types::{InstNo, NoMemory, RedoAt, Scn};
 use rac_disk::{Failed, SharedDisk};
-use rac_nums::{InstNo, NoMemory, Redo, RedoAt, Scn};
 use redo_record::write;
+use redo_types::Redo;
 use std::alloc::Global;
 use std::marker::Model;
 
@@ -33,16 +32,16 @@ impl Model for RedoThread {
 
     ghost Value = { ThreadState };
 
-    ghost view = { λ it. record { number = it.number.0; durable = it.durable; waiting = it.waiting.items; durable_scn = it.durable_scn.0; newest_scn = it.newest_scn.0 } };
+    ghost view = { λ it. record { number = it.number; durable = it.durable; waiting = it.waiting.items; durable_scn = it.durable_scn; newest_scn = it.newest_scn } };
 
-    ghost invariant = { λ it. IsThread (record { number = it.number.0; durable = it.durable; waiting = it.waiting.items; durable_scn = it.durable_scn.0; newest_scn = it.newest_scn.0 }) × (65536 ≤ vec_capacity it.waiting) };
+    ghost invariant = { λ it. IsThread (record { number = it.number; durable = it.durable; waiting = it.waiting.items; durable_scn = it.durable_scn; newest_scn = it.newest_scn }) × (65536 ≤ vec_capacity it.waiting) };
 }
 
 impl RedoThread {
     /// The thread of an instance whose log ends at a place. It takes all memory that the thread needs.
     pub fn new(alloc: Global, number: InstNo, at: RedoAt) -> Result<RedoThread, NoMemory>
-        requires { number.0 < 8 }
-        ensures { IfOk result (λ it. it ≡ record { number = number.0; durable = at.0; waiting = []; durable_scn = 0; newest_scn = 0 }) }
+        requires { number < 8 }
+        ensures { IfOk result (λ it. it ≡ record { number = number; durable = at; waiting = []; durable_scn = 0; newest_scn = 0 }) }
     {
         Ok(RedoThread {
             number,
@@ -58,7 +57,7 @@ impl RedoThread {
         requires is_redo { IsRedo redo.now }
         requires place { end_of self.old + length_of redo.now.kind < 2 ^ 64 }
         ensures ok { OnOk result (HasRoom self.old redo.now × (self.new ≡ appended self.old redo.now)) }
-        ensures at { IfOk result (λ at. at.0 ≡ end_of self.old) }
+        ensures at { IfOk result (λ at. at ≡ end_of self.old) }
         ensures err { OnErr result ((HasRoom self.old redo.now → ⊥) × (self.new ≡ self.old)) }
     {
         let mut bytes = [0; 236];
@@ -75,10 +74,7 @@ impl RedoThread {
     /// Appends all that waits to the log on the disk. An `Err` leaves the thread as it was, and on the
     /// disk some first bytes of what waits: none, a part or all.
     pub fn force<D: SharedDisk>(&mut self, disk: &mut D) -> Result<(), Failed>
-        ensures ok { OnOk result (self.new ≡ forced self.old) }
-        ensures err { OnErr result (self.new ≡ self.old) }
-        ensures disk { WhereTold (D.state disk.old) (D.state disk.new) (Appends self.old.number self.old.waiting result) }
-        ensures counts { CountsAppend (IsErr result) (LogHasRoom (D.state disk.old) self.old.number (length self.old.waiting)) (D.faults disk.old) (D.faults disk.new) (D.full disk.old) (D.full disk.new) }
+        ensures { Forces result self.old self.new (D.state disk.old) (D.state disk.new) }
     {
         disk.append(self.number, &self.waiting)?;
         self.durable = self.end().0;
@@ -97,21 +93,21 @@ impl RedoThread {
 
     /// The place up to which the redo is on the disk.
     pub fn durable(&self) -> RedoAt
-        ensures { result.0 ≡ self.now.durable }
+        ensures { result ≡ self.now.durable }
     {
         RedoAt(self.durable)
     }
 
     /// The place behind all records.
     pub fn end(&self) -> RedoAt
-        ensures { result.0 ≡ end_of self.now }
+        ensures { result ≡ end_of self.now }
     {
         RedoAt(self.durable + self.waiting.len() as u64)
     }
 
     /// The SCN of the newest record that is on the disk, 0 without one.
     pub fn durable_scn(&self) -> Scn
-        ensures { result.0 ≡ self.now.durable_scn }
+        ensures { result ≡ self.now.durable_scn }
     {
         self.durable_scn
     }

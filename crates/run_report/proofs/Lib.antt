@@ -5,3 +5,4 @@ mod EndSteps
 mod Wholes
 mod Members
 mod Counting
+mod Reversed

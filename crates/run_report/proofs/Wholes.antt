@@ -3,8 +3,7 @@ use Rattle.std.proofs.Common.{◌≡◌, ℕ, suc, ◌+◌, ◌<◌, Bool, List,
 use Rattle.std.specs.List.{enumerate_from}
 use Rattle.std.proofs.lemmas.List.{take_more}
 use Rattle.std.proofs.lemmas.List.Concat.{flat_map-append}
-use Rattle.rac_nums.specs.declared.names.InstNo.{InstNo}
-use Rattle.row_model.specs.declared.entry.Entry.{Entry}
+use Rattle.journal.specs.declared.entry.Entry.{Entry}
 use Rattle.script_text.specs.declared.item.Item.{Item}
 use Rattle.run_report.specs.Answers.{answers}
 use Rattle.run_report.specs.Reports.{line_answer, said, told, wave_text}
@@ -31,7 +30,7 @@ flat_map-cong f g [] same = refl
 flat_map-cong f g (x ∷ xs) same = let first = same x in let rest = flat_map-cong f g xs same in cc
 
 -- what was found of the ends says the same in every line
-pub wave_texts-cong : (journal : List Entry) (E D : ℕ → Bool → InstNo → Bool) → ((w : ℕ) (d : Bool) (i : InstNo) → E w d i ≡ D w d i)
+pub wave_texts-cong : (journal : List Entry) (E D : ℕ → Bool → ℕ → Bool) → ((w : ℕ) (d : Bool) (i : ℕ) → E w d i ≡ D w d i)
     → (waves : List (ℕ × List (ℕ × Item))) → flat_map (λ wave. wave_text journal E wave.0 wave.1) waves ≡ flat_map (λ wave. wave_text journal D wave.0 wave.1) waves
 wave_texts-cong journal E D same waves = flat_map-cong _ _ waves (λ wave. flat_map-cong _ _ wave.1 (line_of wave.0))
   where

@@ -1,9 +1,9 @@
 -- Which entry answers a line, and what the report says of it.
 use Rattle.std.specs.Prelude.{ℕ, Bool, false, List, Option, Some, None, codes, ◌==◌}
 use Rattle.std.specs.Option.{option_map_or}
-use Rattle.row_model.specs.declared.entry.Entry.{Entry}
-use Rattle.row_model.specs.declared.entry.Entry.TheVariants.{Rows, Changed, Locked, Acked, Plain, Refused}
-use Rattle.row_model.specs.declared.entry.Entry.TheVariants.{Crashed, Up, Moved, Checkpointed, NotDone}
+use Rattle.journal.specs.declared.entry.Entry.{Entry}
+use Rattle.journal.specs.declared.entry.Entry.TheVariants.{Rows, Changed, Locked, Acked, Plain, Refused}
+use Rattle.journal.specs.declared.entry.Entry.TheVariants.{Crashed, Up, Moved, Checkpointed, NotDone}
 use Rattle.script_text.specs.declared.item.Item.{Item}
 use Rattle.script_text.specs.declared.item.Item.TheVariants.{CrashAfter, CrashMark, Start, Remaster, Checkpoint}
 use Rattle.script_text.specs.declared.item.Item.TheVariants.{Stmt as Statement}

@@ -4,11 +4,11 @@ use Rattle.std.specs.Prelude.{Some, None, codes, count_by, decimal, fold, nat_eq
 use Rattle.std.specs.Fmt.{signed_decimal}
 use Rattle.std.specs.List.{filter_map}
 use Rattle.std.specs.Set.{distinct_count}
-use Rattle.rac_nums.specs.declared.names.RowNo.{RowNo}
-use Rattle.rac_nums.specs.declared.value.Value.{Value}
-use Rattle.rac_nums.specs.declared.value.Value.TheVariants.{Absent, Num}
-use Rattle.row_model.specs.declared.entry.Entry.{Entry}
-use Rattle.row_model.specs.declared.entry.Entry.TheVariants.{Rows, Changed, Locked, Acked, Rolled, Plain, Refused}
+use Rattle.base_types.specs.declared.value.Value.{Value}
+use Rattle.base_types.specs.declared.value.Value.TheVariants.{Absent, Num}
+use Rattle.journal.specs.declared.entry.Entry.{Entry}
+use Rattle.journal.specs.Past.{Past}
+use Rattle.journal.specs.declared.entry.Entry.TheVariants.{Rows, Changed, Locked, Acked, Rolled, Plain, Refused}
 use Rattle.run_report.specs.Texts.{◌⧺◌}
 
 -- The statement line that an entry answers.
@@ -34,7 +34,7 @@ is_refused (Refused _ _) = true
 is_refused _ = false
 
 -- The rows of the newest Rows entry, none without one.
-abbrev pub newest_rows : List Entry → List (RowNo × Value)
+abbrev pub newest_rows : Past → List (ℕ × Value)
 newest_rows [] = []
 newest_rows (Rows _ rows ∷ past) = rows
 newest_rows (_ ∷ past) = newest_rows past
@@ -45,15 +45,16 @@ number_of Absent = pos 0
 number_of (Num number) = number
 
 -- The numbers of rows, added up.
-abbrev pub sum_of : List (RowNo × Value) → ℤ
+abbrev pub sum_of : List (ℕ × Value) → ℤ
 sum_of rows = fold (λ sum row. sum +ℤ number_of row.1) (pos 0) rows
 
 -- How many statement lines were answered, how many commits and whole rollbacks there were, how many
 -- statements were refused, and the sum of the numbers that were read last.
-abbrev pub summary_text : List Entry → List ℕ
-summary_text journal =
+abbrev pub summary_text : Past → List ℕ
+summary_text past =
+    let journal = reverse past in
     codes "statements " ⧺ decimal (distinct_count nat_eq (filter_map answered_statement journal)) ⧺ codes "\n"
     ⧺ codes "committed " ⧺ decimal (count_by is_acked journal) ⧺ codes "\n"
     ⧺ codes "rolled back " ⧺ decimal (count_by is_rolled journal) ⧺ codes "\n"
     ⧺ codes "refused " ⧺ decimal (count_by is_refused journal) ⧺ codes "\n"
-    ⧺ codes "sum " ⧺ signed_decimal (sum_of (newest_rows (reverse journal))) ⧺ codes "\n"
+    ⧺ codes "sum " ⧺ signed_decimal (sum_of (newest_rows past)) ⧺ codes "\n"

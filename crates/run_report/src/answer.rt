@@ -3,7 +3,7 @@ ghost use Rattle.run_report.specs.Answers.{answer_text, answered_line, checkpoin
 ghost use Rattle.run_report.specs.Words.{words_of};
 
 use crate::texts::{CauseText, RowsText};
-use row_model::{Cause, Entry, RowList};
+use journal::{Cause, Entry, RowList};
 use script_text::{Item, Stmt};
 use std::fmt;
 

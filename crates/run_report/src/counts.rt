@@ -3,8 +3,8 @@ ghost use Rattle.std.specs.List.{filter_map};
 ghost use Rattle.std.specs.Set.{distinct_count};
 ghost use Rattle.run_report.specs.Summaries.{answered_statement, is_acked, is_refused, is_rolled, newest_rows, number_of, sum_of, summary_text};
 
-use rac_nums::{NoMemory, RowNo, Value};
-use row_model::{Entry, Journal};
+use base_types::{NoMemory, RowNo, Value};
+use journal::{Entry, Journal};
 use std::alloc::Global;
 use std::collections::HashSet;
 
@@ -18,7 +18,7 @@ pub fn summary(alloc: Global, journal: &Journal) -> Result<Vec<u8>, NoMemory>
     let committed = entries.iter().filter(|entry| is_acked(entry)).count();
     let rolled = entries.iter().filter(|entry| is_rolled(entry)).count();
     let refused = entries.iter().filter(|entry| is_refused(entry)).count();
-    let sum = sum_of(newest_rows(entries));
+    let sum = sum_of(newest_rows(journal));
     let text = format!(in alloc;
         "statements {statements}\ncommitted {committed}\nrolled back {rolled}\nrefused {refused}\nsum {sum}\n"
     )?;
@@ -71,10 +71,10 @@ fn is_refused(entry: &Entry) -> bool
 }
 
 /// The rows of the last Rows entry, none without one.
-fn newest_rows(entries: &[Entry]) -> &[(RowNo, Value)]
-    ensures { result.now ≡ newest_rows (reverse entries.now) }
+fn newest_rows(journal: &Journal) -> &[(RowNo, Value)]
+    ensures { result.now ≡ newest_rows journal.now }
 {
-    let mut left = entries;
+    let mut left = journal.as_slice();
     while let Some((last, before)) = left.split_last() {
         if let Entry::Rows { rows, .. } = last {
             return rows.as_slice();

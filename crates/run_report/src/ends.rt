@@ -1,10 +1,9 @@
 ghost use Rattle.std.specs.Prelude.{◌≡◌, ℕ, ◌==◌, ◌&&◌, ◌||◌, Bool, true, false, not, OnOk};
-ghost use Rattle.rac_nums.specs.declared.names.InstNo.{InstNo};
 ghost use Rattle.run_report.specs.Ends.{is_asked, is_ended};
 ghost use Rattle.run_report.specs.Found.{has_pair, kept};
 
-use rac_nums::{InstNo, NoMemory};
-use row_model::Entry;
+use base_types::{InstNo, NoMemory};
+use journal::Entry;
 use script_text::Item;
 use std::alloc::Global;
 use std::collections::HashSet;
@@ -19,7 +18,7 @@ pub(crate) struct Ends {
 
 impl Ends {
     pub(crate) fn new(alloc: Global) -> Ends
-        ensures { (wave : ℕ) (down : Bool) (inst : InstNo) → kept result wave down inst ≡ false }
+        ensures { (wave : ℕ) (down : Bool) (inst : ℕ) → kept result wave down inst ≡ false }
     {
         Ends {
             ended: HashSet::new(alloc),
@@ -29,8 +28,8 @@ impl Ends {
 
     /// Adds an end. After an `Err` it may be missing.
     pub(crate) fn add(&mut self, wave: usize, inst: InstNo, is_down: bool) -> Result<(), NoMemory>
-        ensures { OnOk result ((w : ℕ) (down : Bool) (i : InstNo) → kept self.new w down i ≡
-            (kept self.old w down i || ((inst.0 == i.0) && not (down && not is_down) && (wave == w)))) }
+        ensures { OnOk result ((w : ℕ) (down : Bool) (i : ℕ) → kept self.new w down i ≡
+            (kept self.old w down i || ((inst == i) && not (down && not is_down) && (wave == w)))) }
     {
         self.ended.insert((wave, inst.0))?;
         if is_down {

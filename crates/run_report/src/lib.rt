@@ -4,7 +4,7 @@
 mod answer;
 mod counts;
 mod ends;
-mod journal;
+mod entry_lines;
 mod losses;
 mod places;
 mod texts;

@@ -1,17 +1,16 @@
 ghost use Rattle.std.specs.Prelude.{◌≡◌, ◌<◌, ◌^◌, ℕ, Bool, IfOk, false, not, length, nat_eq, reverse};
 ghost use Rattle.std.specs.HashMap.{get};
 ghost use Rattle.std.specs.List.{position_from, slice_index_or};
-ghost use Rattle.rac_nums.specs.declared.names.InstNo.{InstNo};
-ghost use Rattle.row_model.specs.Past.{up_after};
+ghost use Rattle.journal.specs.Past.{up_after};
 ghost use Rattle.run_report.specs.Answers.{answers};
-ghost use Rattle.run_report.specs.Ends.{ended_in};
+ghost use Rattle.run_report.specs.Ends.{answers_any, ended_in};
 ghost use Rattle.run_report.specs.Found.{kept};
 
 use crate::ends::Ends;
 use crate::places::Places;
 use crate::waves::{Cursor, Known, next_open};
-use rac_nums::NoMemory;
-use row_model::Entry;
+use base_types::NoMemory;
+use journal::Entry;
 use script_text::Wave;
 use std::alloc::Global;
 
@@ -23,8 +22,8 @@ pub(crate) fn find_ends(
     places: &Places,
 ) -> Result<Ends, NoMemory>
     requires { (line : ℕ) → get nat_eq places.now line ≡ position_from (answers line) 0 journal.now }
-    ensures { IfOk result (λ ends. (wave : ℕ) (down : Bool) (inst : InstNo) →
-        kept ends wave down inst ≡ ended_in journal.now waves.now (reverse journal.now) wave down inst) }
+    ensures { IfOk result (λ ends. (wave : ℕ) (down : Bool) (inst : ℕ) →
+        kept ends wave down inst ≡ ended_in (answers_any (reverse journal.now)) waves.now (reverse journal.now) wave down inst) }
 {
     let mut ends = Ends::new(alloc);
     let mut down = none_down();

@@ -4,8 +4,8 @@ ghost use Rattle.std.specs.List.{position_from};
 ghost use Rattle.run_report.specs.Answers.{answers};
 
 use crate::answer::answered_line;
-use rac_nums::NoMemory;
-use row_model::Entry;
+use base_types::NoMemory;
+use journal::Entry;
 use std::alloc::Global;
 use std::collections::HashMap;
 

@@ -3,8 +3,8 @@ ghost use Rattle.run_report.specs.Journals.{HasSession};
 
 use crate::told::tell_waves;
 use crate::{report, summary};
-use rac_nums::{BlockNo, InstNo, NoMemory, RowNo, Scn, Sequence, Value, Xid};
-use row_model::{Cause, Entry, Journal, RowList};
+use base_types::{BlockNo, InstNo, NoMemory, RowNo, Scn, Sequence, Value, Xid};
+use journal::{Cause, Entry, Journal, RowList};
 use script_text::{Item, Keep, Name, Script, Stmt, Wave, read_script};
 use std::alloc::Global;
 use std::test::Fail;
@@ -148,7 +148,7 @@ const ENTRIES: [Entry; 43] = [
     Entry::Started {
         stmt: 10000,
         session: 0,
-        s: Scn(0),
+        snapshot: Scn(0),
     },
     // A Plain of a put tells nothing.
     Entry::Plain { stmt: 12 },
@@ -183,17 +183,17 @@ const ENTRIES: [Entry; 43] = [
     Entry::Marked {
         stmt: 9,
         xid: XID,
-        c: LAST,
+        commit_scn: LAST,
     },
     Entry::Committed {
         xid: XID,
-        c: LAST,
+        commit_scn: LAST,
         inst: InstNo(2),
     },
     Entry::Acked {
         stmt: 9,
         xid: XID,
-        c: LAST,
+        commit_scn: LAST,
     },
     Entry::Plain { stmt: 10 },
     Entry::Refused {
@@ -401,10 +401,16 @@ fn has_session(script: &Script, entry: &Entry) -> bool
     }
 }
 
-fn has_sessions(script: &Script, entries: &[Entry]) -> bool
+fn have_sessions(script: &Script, entries: &[Entry]) -> bool
     ensures { IsTrue result ↔ All (HasSession script.now) entries.now }
 {
     entries.iter().all(|entry| has_session(script, entry))
+}
+
+fn has_sessions(script: &Script, journal: &Journal) -> bool
+    ensures { IsTrue result → All (HasSession script.now) journal.now }
+{
+    have_sessions(script, journal.as_slice())
 }
 
 /// The name of a savepoint.
@@ -432,12 +438,21 @@ fn first_wave(alloc: Global) -> Result<Wave, NoMemory> {
         session: 0,
         inst: InstNo(0),
     };
-    wave.push((1, opens))?;
+    wave.push(alloc, 1, opens)?;
     for (line, what) in statements(alloc)? {
-        wave.push((line, Item::Stmt { session: 0, what }))?;
+        wave.push(alloc, line, Item::Stmt { session: 0, what })?;
     }
-    for line in FIRST {
-        wave.push(line)?;
+    for (line, item) in FIRST {
+        wave.push(alloc, line, item)?;
+    }
+    Ok(wave)
+}
+
+/// The second wave.
+fn second_wave(alloc: Global) -> Result<Wave, NoMemory> {
+    let mut wave = Wave::new(alloc);
+    for (line, item) in SECOND {
+        wave.push(alloc, line, item)?;
     }
     Ok(wave)
 }
@@ -464,12 +479,11 @@ fn journal(alloc: Global) -> Result<Journal, NoMemory> {
 fn a_journal_is_told(rt: HostRuntime) -> Result<(), Fail> {
     let alloc = rt.alloc();
     let journal = journal(alloc)?;
-    let second: Wave = Sequence::from_vec(Vec::from_array(alloc, SECOND)?);
-    let waves = Vec::from_array(alloc, [first_wave(alloc)?, second])?;
-    let told = tell_waves(alloc, waves.as_slice(), journal.as_slice())?;
+    let waves = Vec::from_array(alloc, [first_wave(alloc)?, second_wave(alloc)?])?;
+    let told = tell_waves(alloc, waves.as_slice(), &journal)?;
     assert_eq!(rt; told.as_str(), ANSWERS);
     let script = read_script(alloc, SCRIPT)?;
-    assert!(rt; has_sessions(&script, journal.as_slice()));
+    assert!(rt; has_sessions(&script, &journal));
     let told = report(alloc, &script, &journal, true)?;
     assert_eq!(rt; told.as_slice(), REPORT.as_bytes());
     let told = summary(alloc, &journal)?;

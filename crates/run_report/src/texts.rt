@@ -1,8 +1,8 @@
 ghost use Rattle.std.specs.Prelude.{Some};
 ghost use Rattle.run_report.specs.Texts.{cause_text, row_text, rows_text};
 
-use rac_nums::{RowNo, Value};
-use row_model::{Cause, RowList};
+use base_types::{RowNo, Value};
+use journal::{Cause, RowList};
 use std::fmt;
 
 /// Prints a row with its value.

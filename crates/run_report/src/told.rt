@@ -1,4 +1,4 @@
-ghost use Rattle.std.specs.Prelude.{All, ◌≡◌, ℕ, ◌++◌, IfOk, OnOk, None, nat_eq, option_map, string_bytes};
+ghost use Rattle.std.specs.Prelude.{All, ◌≡◌, ℕ, ◌++◌, IfOk, OnOk, None, nat_eq, option_map, reverse, string_bytes};
 ghost use Rattle.std.specs.HashMap.{get};
 ghost use Rattle.std.specs.List.{position_from};
 ghost use Rattle.run_report.specs.Answers.{answers};
@@ -10,11 +10,11 @@ ghost use Rattle.run_report.specs.Words.{words_of};
 
 use crate::answer::{Answer, answer_of};
 use crate::ends::Ends;
-use crate::journal::push_lines;
+use crate::entry_lines::push_lines;
 use crate::losses::find_ends;
 use crate::places::{Places, first_answers};
-use rac_nums::NoMemory;
-use row_model::{Entry, Journal};
+use base_types::NoMemory;
+use journal::{Entry, Journal};
 use script_text::{Item, Script, Wave};
 use std::alloc::Global;
 
@@ -30,7 +30,7 @@ pub fn report(
     ensures { IfOk result (λ text. text.items ≡ report_text script.now journal.now with_journal) }
 {
     let waves = script.waves().as_slice();
-    let mut text = tell_waves(alloc, waves, journal.as_slice())?;
+    let mut text = tell_waves(alloc, waves, journal)?;
     if with_journal {
         push_lines(&mut text, script, journal.as_slice())?;
     }
@@ -41,10 +41,11 @@ pub fn report(
 pub(crate) fn tell_waves(
     alloc: Global,
     waves: &[Wave],
-    journal: &[Entry],
+    journal: &Journal,
 ) -> Result<String, NoMemory>
-    ensures { IfOk result (λ text. string_bytes text ≡ answers_text waves.now journal.now) }
+    ensures { IfOk result (λ text. string_bytes text ≡ answers_text waves.now journal.now (reverse journal.now)) }
 {
+    let journal = journal.as_slice();
     let places = first_answers(alloc, journal)?;
     let ends = find_ends(alloc, waves, journal, &places)?;
     let sources = Sources {

@@ -15,15 +15,41 @@ text_bytes = 2100000
 
 -- how many instances there are at most
 abbrev pub instance_limit : ℕ
-instance_limit = 1
+instance_limit = 8
+
+-- how many data blocks
+abbrev pub block_limit : ℕ
+block_limit = 64
+
+-- how many undo records a segment has room for, at least and at most
+abbrev pub least_undo : ℕ
+least_undo = 8
+
+abbrev pub undo_limit : ℕ
+undo_limit = 64
+
+-- how many frames a buffer cache has, at least and at most
+abbrev pub least_cache : ℕ
+least_cache = 4
+
+abbrev pub cache_limit : ℕ
+cache_limit = 64
 
 -- how many sessions a script opens at most
 abbrev pub session_limit : ℕ
-session_limit = 1
+session_limit = 1024
+
+-- how many buckets of masters there are
+abbrev pub bucket_count : ℕ
+bucket_count = 16
+
+-- after how many steps of its wave a crash is asked for at most
+abbrev pub step_limit : ℕ
+step_limit = 1000000
 
 -- how many instances there are where nothing else is set
 abbrev pub default_instances : ℕ
-default_instances = 1
+default_instances = 2
 
 -- how many data blocks
 abbrev pub default_blocks : ℕ

@@ -2,7 +2,7 @@
 //! one slot holds the shared value with the book.
 use crate::machine::Machine;
 use atomic_table::{Seat, Shared, Table, TableRule};
-use rac_nums::Sequence;
+use base_types::Sequence;
 use std::alloc::Global;
 use std::marker::PhantomData;
 use std::snapshot::Snapshot;

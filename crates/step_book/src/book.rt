@@ -7,7 +7,7 @@ use crate::board::{Board, Place, Start, TurnTable};
 use crate::machine::Machine;
 use crate::seat::Seat;
 use atomic_table::Table;
-use rac_nums::{NoMemory, Sequence};
+use base_types::{NoMemory, Sequence};
 use std::alloc::Global;
 use std::snapshot::Snapshot;
 

@@ -3,7 +3,7 @@ ghost use Rattle.step_book.specs.Actors.{Rules, Follows, MayWork, Ready, Turns, 
 ghost use Rattle.step_book.specs.declared.answer.Turn.TheVariants.{NoMemory as Exhausted};
 
 use crate::answer::Turn;
-use rac_nums::{NoMemory, Sequence};
+use base_types::{NoMemory, Sequence};
 
 /// A machine of actors that share one value.
 pub trait Machine {

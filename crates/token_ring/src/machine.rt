@@ -2,7 +2,7 @@ ghost use Rattle.std.specs.Prelude.{◌≡◌, ◌<◌, ◌++◌, ◌∷◌, [],
 ghost use Rattle.token_ring.specs.Ring.{noted, passed, ring, waiting_by};
 
 use crate::ring::{Counter, Step, Token};
-use rac_nums::{NoMemory, Sequence};
+use base_types::{NoMemory, Sequence};
 use step_book::{Machine, Turn};
 
 const PASSES: u64 = 100;

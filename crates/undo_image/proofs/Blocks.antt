@@ -3,8 +3,8 @@ use Rattle.std.proofs.Common.{◌≡◌, ℕ, ◌+◌, ◌-◌, ◌<◌, ◌≤�
 use Rattle.std.specs.List.{flat_map}
 use Rattle.std.proofs.lemmas.Grind.{flat_map-append}
 use Rattle.std.proofs.lemmas.List.{append-nil, append_assoc, drop_all, length-append, length-replicate, take-append-drop, take-append-le, take_all}
-use Rattle.rac_nums.specs.Bytes.{Puts}
-use Rattle.rac_nums.proofs.BytesLemmas.{Puts-append}
+use Rattle.base_types.specs.Bytes.{Puts}
+use Rattle.base_types.proofs.BytesLemmas.{Puts-append}
 use Rattle.part_image.specs.declared.front.BlockFront.{BlockFront}
 use Rattle.part_image.specs.declared.front.BlockKind.{BlockKind}
 use Rattle.part_image.specs.Cells.{Cell, Zeros, Begins, IsFirstWrong, StandsAt, first_fields, spelled}

@@ -1,8 +1,8 @@
 -- What is read and written of headers.
 use Rattle.std.proofs.Common.{◌≡◌, ℕ, ◌+◌, ◌*◌, ◌<◌, ◌≤◌, List, length, take, get_or, set, replicate, refl, sym, subst, ◌∙◌, arith}
 use Rattle.std.proofs.lemmas.List.{take_all}
-use Rattle.rac_nums.specs.Bytes.{Puts}
-use Rattle.rac_nums.specs.declared.undo.TxnSlot.{TxnSlot}
+use Rattle.base_types.specs.Bytes.{Puts}
+use Rattle.redo_types.specs.declared.undo.TxnSlot.{TxnSlot}
 use Rattle.part_image.specs.declared.front.BlockFront.{BlockFront}
 use Rattle.part_image.specs.declared.front.BlockKind.TheVariants.{Header}
 use Rattle.part_image.specs.Cells.{Begins, IsFirstWrong, StandsAt, spelled}
@@ -107,6 +107,6 @@ a_slot_is_wrong bytes k few wrong slots are stand =
     wrong one.0 one.1 one.2
 
 -- one slot more is put
-pub more_slots_put : (old mid new : List ℕ) (slots : List TxnSlot) (k : ℕ) → length old ≡ 512 → length slots ≡ 8 → k < 8 → Puts old mid 32 (spelled (slots_cells (take k slots))) → Puts mid new (32 + 40 * k) (spelled (txn_slot_cells (get_or slots k never_slot)))
+pub more_slots_put : (old mid new : List ℕ) (slots : List TxnSlot) (k : ℕ) (unused : TxnSlot) → length old ≡ 512 → length slots ≡ 8 → k < 8 → Puts old mid 32 (spelled (slots_cells (take k slots))) → Puts mid new (32 + 40 * k) (spelled (txn_slot_cells (get_or slots k unused)))
     → Puts old new 32 (spelled (slots_cells (take (k + 1) slots)))
-more_slots_put old mid new slots k long eight few first second = one_more_put txn_slot_cells 40 slot_size old mid new 32 k slots never_slot (omega arith) (omega arith) first second
+more_slots_put old mid new slots k unused long eight few first second = one_more_put txn_slot_cells 40 slot_size old mid new 32 k slots unused (omega arith) (omega arith) first second

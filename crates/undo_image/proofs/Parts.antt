@@ -3,8 +3,8 @@ use Rattle.std.proofs.Common.{◌≡◌, ℕ, zero, suc, ◌+◌, ◌*◌, ◌<�
 use Rattle.std.specs.List.{AllByRecursion, flat_map}
 use Rattle.std.proofs.lemmas.Grind.{flat_map-append}
 use Rattle.std.proofs.lemmas.List.{append-nil, length-append, length-drop, length-take-le, take-append-drop, take_more, take_more_set}
-use Rattle.rac_nums.specs.Bytes.{Puts}
-use Rattle.rac_nums.proofs.BytesLemmas.{Puts-append}
+use Rattle.base_types.specs.Bytes.{Puts}
+use Rattle.base_types.proofs.BytesLemmas.{Puts-append}
 use Rattle.part_image.specs.Cells.{Cell, Begins, StandsAt, cell_bytes, spelled}
 use Rattle.part_image.proofs.CellLemmas.{StandsAt-append, StandsAt-first, StandsAt-second}
 use Rattle.part_image.proofs.Numbers.{IsBytes, IsBytes-drop}

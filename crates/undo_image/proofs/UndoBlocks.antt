@@ -1,8 +1,8 @@
 -- What is read and written of undo blocks.
 use Rattle.std.proofs.Common.{◌≡◌, ℕ, ◌+◌, ◌*◌, ◌<◌, ◌≤◌, List, [], ◌∷◌, length, take, get_or, set, replicate, Option, None, Some, refl, sym, ap, subst, ◌∙◌, arith}
 use Rattle.std.proofs.lemmas.List.{take_all}
-use Rattle.rac_nums.specs.Bytes.{Puts}
-use Rattle.rac_nums.specs.declared.undo.UndoRecord.{UndoRecord}
+use Rattle.base_types.specs.Bytes.{Puts}
+use Rattle.redo_types.specs.declared.undo.UndoRecord.{UndoRecord}
 use Rattle.part_image.specs.declared.front.BlockFront.{BlockFront}
 use Rattle.part_image.specs.declared.front.BlockKind.TheVariants.{Undo}
 use Rattle.part_image.specs.Cells.{Number, Zeros, Begins, IsFirstWrong, StandsAt, spelled}
@@ -121,6 +121,6 @@ a_place_is_wrong bytes k few wrong places are stand =
     wrong one.0 one.1 one.2
 
 -- one place more is put
-pub more_places_put : (old mid new : List ℕ) (places : List Place) (k : ℕ) → length old ≡ 512 → length places ≡ 4 → k < 4 → Puts old mid 32 (spelled (places_cells (take k places))) → Puts mid new (32 + 96 * k) (spelled (undo_place_cells (get_or places k none)))
+pub more_places_put : (old mid new : List ℕ) (places : List Place) (k : ℕ) (unused : Place) → length old ≡ 512 → length places ≡ 4 → k < 4 → Puts old mid 32 (spelled (places_cells (take k places))) → Puts mid new (32 + 96 * k) (spelled (undo_place_cells (get_or places k unused)))
     → Puts old new 32 (spelled (places_cells (take (k + 1) places)))
-more_places_put old mid new places k long four few first second = one_more_put undo_place_cells 96 place_size old mid new 32 k places none (omega arith) (omega arith) first second
+more_places_put old mid new places k unused long four few first second = one_more_put undo_place_cells 96 place_size old mid new 32 k places unused (omega arith) (omega arith) first second

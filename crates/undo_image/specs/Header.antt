@@ -1,9 +1,9 @@
 -- The header of an undo segment, as bytes.
 use Rattle.std.specs.Prelude.{◌≡◌, ℕ, ◌+◌, List, [], ◌∷◌, ◌++◌, length, replicate, slice_index_or, slice_set}
 use Rattle.std.specs.List.{AllByRecursion, flat_map}
-use Rattle.rac_nums.specs.declared.names.Scn.{Scn}
-use Rattle.rac_nums.specs.declared.undo.TxnSlot.{TxnSlot}
-use Rattle.rac_nums.specs.declared.undo.TxnState.TheVariants.{Never}
+use Rattle.base_types.specs.declared.names.Scn.{Scn}
+use Rattle.redo_types.specs.declared.undo.TxnSlot.{TxnSlot}
+use Rattle.redo_types.specs.declared.undo.TxnState.TheVariants.{Never}
 use Rattle.part_image.specs.declared.front.BlockFront.{BlockFront}
 use Rattle.part_image.specs.declared.front.BlockKind.TheVariants.{Header}
 use Rattle.part_image.specs.Cells.{Cell, Zeros, first_fields, spelled}
@@ -39,7 +39,7 @@ pub record IsHeader (h : HeaderContent) : Type 0 where
 
 -- the slot that no transaction ever took
 abbrev pub never_slot : TxnSlot
-never_slot = record { wrap = 0; state = Never; first = 0; last = 0; scn = record { 0 = 0 }; prev = record { 0 = 0 } }
+never_slot = record { wrap = 0; state = Never; first = 0; last = 0; scn = 0; prev = 0 }
 
 -- the slot with this number
 abbrev pub slot_at : HeaderContent → ℕ → TxnSlot
@@ -49,10 +49,10 @@ slot_at h k = slice_index_or h.slots k never_slot
 abbrev pub empty_header : ℕ → ℕ → HeaderContent
 empty_header number seg = record {
   front = record {
-    number = record { 0 = number };
-    seg = record { 0 = seg };
+    number = number;
+    seg = seg;
     version = 0;
-    scn = record { 0 = 0 };
+    scn = 0;
     next = 1;
   };
   slots = replicate 8 never_slot;

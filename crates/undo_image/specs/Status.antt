@@ -1,8 +1,8 @@
 -- What the slot of a transaction in the header of its segment tells of it.
 use Rattle.std.specs.Prelude.{◌≡◌, ◌≢◌, ◌+◌, ◌≤◌, ◌⊎◌}
-use Rattle.rac_nums.specs.declared.names.Xid.{Xid}
-use Rattle.rac_nums.specs.declared.undo.TxnSlot.{TxnSlot}
-use Rattle.rac_nums.specs.declared.undo.TxnState.TheVariants as state
+use Rattle.base_types.specs.declared.names.Xid.{Xid}
+use Rattle.redo_types.specs.declared.undo.TxnSlot.{TxnSlot}
+use Rattle.redo_types.specs.declared.undo.TxnState.TheVariants as state
 use Rattle.undo_image.specs.declared.status.Status.{Status}
 use Rattle.undo_image.specs.declared.status.Status.TheVariants.{Active, Ended, ReusedBelow}
 

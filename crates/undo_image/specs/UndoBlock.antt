@@ -1,8 +1,8 @@
 -- A block of undo records, as bytes.
 use Rattle.std.specs.Prelude.{◌≡◌, ℕ, ◌+◌, List, [], ◌∷◌, ◌++◌, Option, None, Some, length, replicate, slice_index_or, slice_set}
 use Rattle.std.specs.List.{AllByRecursion, flat_map}
-use Rattle.rac_nums.specs.declared.names.Scn.{Scn}
-use Rattle.rac_nums.specs.declared.undo.UndoRecord.{UndoRecord}
+use Rattle.base_types.specs.declared.names.Scn.{Scn}
+use Rattle.redo_types.specs.declared.undo.UndoRecord.{UndoRecord}
 use Rattle.part_image.specs.declared.front.BlockFront.{BlockFront}
 use Rattle.part_image.specs.declared.front.BlockKind.TheVariants.{Undo}
 use Rattle.part_image.specs.Cells.{Cell, Zeros, first_fields, spelled}
@@ -44,10 +44,10 @@ record_at u place = slice_index_or u.places place None
 abbrev pub empty_undo_block : ℕ → ℕ → UndoContent
 empty_undo_block number seg = record {
   front = record {
-    number = record { 0 = number };
-    seg = record { 0 = seg };
+    number = number;
+    seg = seg;
     version = 0;
-    scn = record { 0 = 0 };
+    scn = 0;
     next = 0;
   };
   places = replicate 4 None;

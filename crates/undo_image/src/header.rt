@@ -1,15 +1,16 @@
 ghost use Rattle.std.specs.Prelude.{◌≡◌, ◌<◌, ◌≤◌, ◌-◌, ◌^◌, drop, IfErr, IfOk};
-ghost use Rattle.rac_nums.specs.Bytes.{Puts};
+ghost use Rattle.base_types.specs.Bytes.{Puts};
 ghost use Rattle.part_image.specs.Cells.{IsFirstWrong, Reads, spelled};
 ghost use Rattle.part_image.specs.Undo.{IsTxnSlot};
 ghost use Rattle.undo_image.specs.Header.{AreSlots, HeaderContent, IsHeader, empty_header, header_bytes, header_fields, slot_at, slots_cells, with_slot};
 ghost use Rattle.undo_image.specs.Status.{IsStatus};
 
 use crate::status::Status;
+use base_types::{BlockNo, InstNo, Scn, Xid};
 use part_image::{
     BlockFront, BlockKind, are_zeros, put_front, put_txn_slot, put_zeros, read_front, read_txn_slot,
 };
-use rac_nums::{BadBlock, BlockNo, InstNo, Scn, TxnSlot, TxnState, Xid};
+use redo_types::{BadBlock, TxnSlot, TxnState};
 use std::marker::Model;
 
 // The slot that no transaction ever took.
@@ -43,7 +44,7 @@ impl Model for UndoHeader {
 impl UndoHeader {
     /// The header of a segment that no transaction ever used.
     pub fn empty(number: BlockNo, seg: InstNo) -> Self
-        ensures { result ≡ empty_header number.0 seg.0 }
+        ensures { result ≡ empty_header number seg }
     {
         UndoHeader {
             front: BlockFront {
@@ -85,7 +86,7 @@ impl UndoHeader {
     /// What the header tells of a transaction of its segment that took its slot: its wrap is at least 1 and at
     /// most the slot's.
     pub fn status(&self, x: Xid) -> Status
-        requires segment { x.seg.0 ≡ self.now.front.seg.0 }
+        requires segment { x.seg ≡ self.now.front.seg }
         requires slot { x.slot < 8 }
         requires taken { 1 ≤ x.wrap }
         requires known { x.wrap ≤ (slot_at self.now x.slot).wrap }
@@ -147,9 +148,11 @@ impl UndoHeader {
     pub fn copy(&self) -> Self
         ensures { result ≡ self.now }
     {
+        let front = &self.front;
+        let [a, b, c, d, e, f, g, h] = &self.slots;
         UndoHeader {
-            front: self.front,
-            slots: self.slots,
+            front: *front,
+            slots: [*a, *b, *c, *d, *e, *f, *g, *h],
         }
     }
 
@@ -167,7 +170,7 @@ impl UndoHeader {
         requires slot { IsTxnSlot slot.now }
         requires next { 1 ≤ next }
         requires version { self.old.front.version < 2 ^ 64 - 1 }
-        requires scn { 1 ≤ scn.0 }
+        requires scn { 1 ≤ scn }
         ensures { self.new ≡ with_slot self.old k slot.now next scn }
     {
         self.front.version += 1;

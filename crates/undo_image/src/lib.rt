@@ -8,6 +8,6 @@ mod tests;
 mod undo_block;
 
 pub use header::UndoHeader;
-pub use rac_nums::{BadBlock, TxnSlot, TxnState, UndoRecord};
+pub use redo_types::{BadBlock, TxnSlot, TxnState, UndoRecord};
 pub use status::Status;
 pub use undo_block::UndoBlock;

@@ -1,4 +1,4 @@
-use rac_nums::Scn;
+use base_types::Scn;
 
 /// What the header of its undo segment tells of a transaction.
 #[derive(Clone, Copy, Debug, PartialEq, Eq)]

@@ -1,5 +1,6 @@
 use super::*;
-use rac_nums::{BlockNo, InstNo, ItlSlot, Scn, Value, Xid};
+use base_types::{BlockNo, InstNo, Scn, Value, Xid};
+use redo_types::ItlSlot;
 use std::process::Abort;
 
 // The bytes of a header that aren't zero, each with its place. Its slots: never used; active; active with no undo

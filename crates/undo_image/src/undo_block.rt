@@ -1,14 +1,15 @@
 ghost use Rattle.std.specs.Prelude.{◌≡◌, ◌<◌, ◌≤◌, ◌-◌, ◌^◌, drop, IfErr, IfOk};
-ghost use Rattle.rac_nums.specs.Bytes.{Puts};
+ghost use Rattle.base_types.specs.Bytes.{Puts};
 ghost use Rattle.part_image.specs.Cells.{IsFirstWrong, Reads, spelled};
 ghost use Rattle.part_image.specs.Undo.{IsUndoRecord};
 ghost use Rattle.undo_image.specs.UndoBlock.{ArePlaces, UndoContent, IsUndoBlock, empty_undo_block, undo_bytes, undo_fields, record_at, places_cells, with_record};
 
+use base_types::{BlockNo, InstNo, Scn};
 use part_image::{
     BlockFront, BlockKind, are_zeros, put_front, put_undo_place, put_zeros, read_front,
     read_undo_place,
 };
-use rac_nums::{BadBlock, BlockNo, InstNo, Scn, UndoRecord};
+use redo_types::{BadBlock, UndoRecord};
 use std::marker::Model;
 
 /// A block of an undo segment, with four places for undo records.
@@ -31,7 +32,7 @@ impl Model for UndoBlock {
 impl UndoBlock {
     /// The undo block that no undo record was ever written to.
     pub fn empty(number: BlockNo, seg: InstNo) -> Self
-        ensures { result ≡ empty_undo_block number.0 seg.0 }
+        ensures { result ≡ empty_undo_block number seg }
     {
         UndoBlock {
             front: BlockFront {
@@ -110,9 +111,11 @@ impl UndoBlock {
     pub fn copy(&self) -> Self
         ensures { result ≡ self.now }
     {
+        let front = &self.front;
+        let [first, second, third, fourth] = &self.places;
         UndoBlock {
-            front: self.front,
-            places: self.places,
+            front: *front,
+            places: [*first, *second, *third, *fourth],
         }
     }
 
@@ -129,7 +132,7 @@ impl UndoBlock {
         requires place { place < 4 }
         requires undo { IsUndoRecord undo.now }
         requires version { self.old.front.version < 2 ^ 64 - 1 }
-        requires scn { 1 ≤ scn.0 }
+        requires scn { 1 ≤ scn }
         ensures { self.new ≡ with_record self.old place undo.now scn }
     {
         self.front.version += 1;

@@ -1,6 +1,6 @@
 use Rattle.std.proofs.Common.{ℕ, ◌+◌, ◌≤◌, List, [], ◌∷◌, length, replicate, arith, refl}
-use Rattle.rac_nums.specs.Bytes.{Puts, big_bytes}
-use Rattle.rac_nums.proofs.BytesLemmas.{Puts-append}
+use Rattle.base_types.specs.Bytes.{Puts, big_bytes}
+use Rattle.base_types.proofs.BytesLemmas.{Puts-append}
 use Rattle.part_image.specs.Cells.{spelled}
 use Rattle.part_image.specs.Slots.{bits_of, flag_of}
 use Rattle.block_image.specs.declared.row.Row.{Row}

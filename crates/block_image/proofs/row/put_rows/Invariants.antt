@@ -1,5 +1,5 @@
 use Rattle.std.proofs.Common.{take}
-use Rattle.rac_nums.specs.Bytes.{Puts}
+use Rattle.base_types.specs.Bytes.{Puts}
 use Rattle.part_image.specs.Cells.{spelled}
 use Rattle.block_image.specs.Parts.{rows_cells}
 use Rattle.block_image.proofs.row.put_rows.Given as goal

@@ -1,5 +1,5 @@
 use Rattle.std.proofs.Common.{◌≡◌, length}
-use Rattle.log_table.specs.Logs.{bytes_of}
+use Rattle.log_history.specs.Logs.{bytes_of}
 use Rattle.log_audit.proofs.ReadingLemmas.{ReadSoFar}
 use Rattle.log_audit.proofs.reading.read_logs.Given as goal
 
@@ -7,7 +7,7 @@ use Rattle.log_audit.proofs.reading.read_logs.Given as goal
 abbrev pub invariant-loop-thread : goal.invariant-loop-thread
 invariant-loop-thread g l = record {
   count : length l.logs.items ≡ l.thread;
-  read : ReadSoFar l.thread (bytes_of l.logs.items) (g.D.SharedDisk.state l.fn.disk) (g.D.SharedDisk.state l.disk);
-  faults : g.D.SharedDisk.faults l.disk ≡ g.D.SharedDisk.faults l.fn.disk;
-  full : g.D.SharedDisk.full l.disk ≡ g.D.SharedDisk.full l.fn.disk;
+  read : ReadSoFar l.thread (bytes_of l.logs.items) (g.D.SharedDisk.state l.fn.disk).told (g.D.SharedDisk.state l.disk).told;
+  faults : (g.D.SharedDisk.state l.disk).faults ≡ (g.D.SharedDisk.state l.fn.disk).faults;
+  full : (g.D.SharedDisk.state l.disk).full ≡ (g.D.SharedDisk.state l.fn.disk).full;
 }

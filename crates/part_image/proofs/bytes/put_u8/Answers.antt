@@ -1,5 +1,5 @@
 use Rattle.std.proofs.Common.{arith}
-use Rattle.rac_nums.proofs.BytesLemmas.{Puts-set}
+use Rattle.base_types.proofs.BytesLemmas.{Puts-set}
 use Rattle.part_image.proofs.bytes.put_u8.Goals as goal
 
 pub returns : goal.returns

@@ -1,6 +1,6 @@
 use Rattle.std.proofs.Common.{◌+◌, arith, refl}
-use Rattle.rac_nums.specs.Bytes.{big_bytes, xid_bytes}
-use Rattle.rac_nums.proofs.BytesLemmas.{Puts-append}
+use Rattle.base_types.specs.Bytes.{big_bytes, xid_bytes}
+use Rattle.base_types.proofs.BytesLemmas.{Puts-append}
 use Rattle.part_image.proofs.itl.put_itl.Goals as goal
 
 pub returns : goal.returns

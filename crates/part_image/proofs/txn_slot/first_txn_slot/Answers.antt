@@ -1,5 +1,5 @@
 use Rattle.std.proofs.Common.{◌≡◌, arith, refl, sym, ◌∙◌, subst}
-use Rattle.rac_nums.specs.declared.undo.TxnSlot.{TxnSlot}
+use Rattle.redo_types.specs.declared.undo.TxnSlot.{TxnSlot}
 use Rattle.part_image.specs.Undo.{HasState, NamesEndBefore, txn_slot_cells}
 use Rattle.part_image.proofs.CellLemmas.{AllStand, all_stand_where_spelled, fit_where_all_stand, spelled_where_all_stand}
 use Rattle.part_image.proofs.Numbers.{IsBytes}
@@ -10,7 +10,7 @@ use Rattle.part_image.proofs.txn_slot.first_txn_slot.Goals as goal
 pub returns-then-names_end_before : goal.returns-then-names_end_before
 returns-then-names_end_before c =
     let bytes = c.args.bytes.now in
-    let slot : TxnSlot = record { wrap = c.get_u32.result; state = c.in-Some.state; first = c.get_u64.result; last = c.get_u64-2.result; scn = record { 0 = c.get_u64-3.result }; prev = record { 0 = c.get_u64-4.result } } in
+    let slot : TxnSlot = record { wrap = c.get_u32.result; state = c.in-Some.state; first = c.get_u64.result; last = c.get_u64-2.result; scn = c.get_u64-3.result; prev = c.get_u64-4.result } in
     let all : AllStand bytes 0 (txn_slot_cells slot) =
     (sym c.get_u32.ensures, (c.in-Some.ensures, (c.are_zeros.ensures.0 c.if-are_zeros.true, (sym c.get_u64.ensures, (sym c.get_u64-2.ensures, (sym c.get_u64-3.ensures, (sym c.get_u64-4.ensures, tt))))))) in
     let fits : IsBytes bytes = λ i. omega (arith, c.type_inv.bytes i) in (
@@ -22,7 +22,7 @@ pub returns-else-are_zeros : goal.returns-else-are_zeros
 returns-else-are_zeros c = λ v is begins.
     let bytes = c.args.bytes.now in
     let all = all_stand_where_spelled bytes 0 (txn_slot_cells v) is.fits begins in
-    let slot : TxnSlot = record { wrap = c.get_u32.result; state = c.in-Some.state; first = c.get_u64.result; last = c.get_u64-2.result; scn = record { 0 = c.get_u64-3.result }; prev = record { 0 = c.get_u64-4.result } } in
+    let slot : TxnSlot = record { wrap = c.get_u32.result; state = c.in-Some.state; first = c.get_u64.result; last = c.get_u64-2.result; scn = c.get_u64-3.result; prev = c.get_u64-4.result } in
     let wrap = c.get_u32.ensures ∙ all.0 in
     let state = same_state c.in-Some.state v.state (sym c.in-Some.ensures ∙ all.1.0) in
     let first = c.get_u64.ensures ∙ all.1.1.1.0 in

@@ -1,5 +1,5 @@
 use Rattle.std.proofs.Common.{[], ◌∷◌, ◌++◌, slice_index, arith, refl, sym, ◌∙◌}
-use Rattle.rac_nums.specs.declared.undo.UndoRecord.{UndoRecord}
+use Rattle.redo_types.specs.declared.undo.UndoRecord.{UndoRecord}
 use Rattle.part_image.specs.Undo.{HasRanges, undo_record_cells}
 use Rattle.part_image.specs.Cells.{Byte, Number, Zeros}
 use Rattle.part_image.specs.Slots.{bits_of, flag_of, itl_cells}
@@ -31,7 +31,7 @@ returns-then-has_ranges c =
     let spaces = c.has_clear_spaces.ensures.0 c.if-has_clear_spaces.true in
     let ranges = c.has_ranges.ensures.0 c.if-has_ranges.true in
     let value = c.in-Some-value_of.ensures in
-    let undo : UndoRecord = record { seq = c.get_u64-2.result; slot = slice_index bytes 8; itl = slice_index bytes 9; row = slice_index bytes 10; mine = c.in-Some.mine; wrap = c.get_u32.result; block = record { 0 = c.get_u16.result }; version = c.get_u64-3.result; prev = c.get_u64-4.result; old_itl = slot; old = old } in
+    let undo : UndoRecord = record { seq = c.get_u64-2.result; slot = slice_index bytes 8; itl = slice_index bytes 9; row = slice_index bytes 10; mine = c.in-Some.mine; wrap = c.get_u32.result; block = c.get_u16.result; version = c.get_u64-3.result; prev = c.get_u64-4.result; old_itl = slot; old = old } in
     let last : AllStand bytes 56 (Byte (flag_of old) ∷ Zeros 7 ∷ Number 8 (bits_of old) ∷ Zeros 24 ∷ []) =
     (value.1, (spaces.1, (sym c.get_u64.ensures ∙ value.2, (spaces.2, tt)))) in
     let behind : AllStand bytes 40 (itl_cells slot ++ Byte (flag_of old) ∷ Zeros 7 ∷ Number 8 (bits_of old) ∷ Zeros 24 ∷ []) =

@@ -1,7 +1,7 @@
 use Rattle.std.proofs.Common.{ap, length, subst, sym}
 use Rattle.std.specs.Prelude.{IsSomeAnd}
 use Rattle.std.specs.Option.{option_and_then}
-use Rattle.rac_disk.specs.Disk.{DiskState}
+use Rattle.rac_disk.specs.Content.{Content}
 use Rattle.script_text.specs.Asked.{asked, range_asked}
 use Rattle.plain_node.specs.declared.node.Node.{Node}
 use Rattle.plain_node.specs.Engine.{LogsTell}
@@ -9,7 +9,6 @@ use Rattle.plain_node.specs.Lined.{last_line}
 use Rattle.plain_node.specs.Lost.{IsLostSoFar}
 use Rattle.plain_node.proofs.AnswerLemmas.{lost-line, tells-lost}
 use Rattle.plain_node.proofs.LineLemmas.{last_line-push}
-use Rattle.plain_node.proofs.RedoSizeLemmas.{redo_size-lost}
 use Rattle.plain_node.proofs.run.answer.Goals as goal
 
 pub returns-in-Ok-clause-right : goal.returns-in-Ok-clause-right
@@ -31,10 +30,10 @@ returns-in_ok-lose-in-Err-Fault-clause-lost g c = λ fault parts done next right
 
 pub returns-in_ok-lose-in-Err-Fault-clause-tells : goal.returns-in_ok-lose-in-Err-Fault-clause-tells
 returns-in_ok-lose-in-Err-Fault-clause-tells g c = λ fault parts done right kept one.
-    subst (λ (it : Node). IsSomeAnd (g.D.SharedDisk.state c.try_answer.new.disk) (λ (disk : DiskState). LogsTell disk it.journal)) (sym c.in_ok-lose-in-Err-Fault.ensures)
-    (tells-lost (g.D.SharedDisk.state c.try_answer.new.disk) c.try_answer.new.engine.node c.args.line (c.in-Err-Fault.ensures.tells (rw c.in-Err-Fault.field-0-is fault) (asked parts) right.sound right.proper kept one))
+    subst (λ (it : Node). IsSomeAnd (g.D.SharedDisk.state c.try_answer.new.disk).told (λ (disk : Content). LogsTell disk it.journal)) (sym c.in_ok-lose-in-Err-Fault.ensures)
+    (tells-lost (g.D.SharedDisk.state c.try_answer.new.disk).told c.try_answer.new.engine.node c.args.line (c.in-Err-Fault.ensures.tells (rw c.in-Err-Fault.field-0-is fault) (asked parts) right.sound right.proper kept one))
 
 pub returns-in_ok-lose-in-Err-Fault-clause-full : goal.returns-in_ok-lose-in-Err-Fault-clause-full
 returns-in_ok-lose-in-Err-Fault-clause-full g c = λ fault room has few.
     c.in-Err-Fault.ensures.full (rw c.in-Err-Fault.field-0-is fault) room has
-    (rw (c.in_ok-lose-in-Err-Fault.ensures, redo_size-lost c.try_answer.new.engine.node c.args.line) at few)
+    (rw c.in_ok-lose-in-Err-Fault.ensures at few)

@@ -33,7 +33,7 @@ loop-line-preserved g c =
             λ kept. c.in_ok-answer.ensures.kept parts done so_far.3 (so_far.4 kept),
           );
       measured = λ room has. c.in_ok-answer.ensures.measured room (c.loop-line.invariant.measured room has);
-      calm = (c.in_ok-answer.ensures.calm.0 ∙ c.loop-line.invariant.calm.0, c.in_ok-answer.ensures.calm.1 ∙ c.loop-line.invariant.calm.1);
+      calm = record { faults = c.in_ok-answer.ensures.calm.faults ∙ c.loop-line.invariant.calm.faults; full = c.in_ok-answer.ensures.calm.full ∙ c.loop-line.invariant.calm.full };
     }
 
 pub returns-clause-runs : goal.returns-clause-runs

@@ -1,7 +1,8 @@
 use Rattle.std.proofs.Common.{◌≡◌, ℕ, List, ◌++◌, drop}
 use Rattle.script_text.specs.declared.item.Item.{Item}
 use Rattle.script_text.specs.ScriptParts.{ScriptParts}
-use Rattle.plain_node.specs.Engine.{CanGo, IsCalm, IsKept}
+use Rattle.rac_disk.specs.State.{IsCalm}
+use Rattle.plain_node.specs.Engine.{CanGo, IsKept}
 use Rattle.plain_node.specs.Lined.{AreNext, IsRight}
 use Rattle.plain_node.specs.RedoSize.{IsMeasured}
 use Rattle.plain_node.proofs.run.run_wave.Given as goal
@@ -10,13 +11,11 @@ use Rattle.plain_node.proofs.run.run_wave.Given as goal
 abbrev pub invariant-loop-line : goal.invariant-loop-line
 invariant-loop-line g l =
     let state = g.D.SharedDisk.state in
-    let faults = g.D.SharedDisk.faults in
-    let full = g.D.SharedDisk.full in
     record {
       runs : (more : List (ℕ × Item)) → CanGo l.fn.engine (l.wave ++ more) → CanGo l.engine (drop l.line-index l.wave ++ more);
       went : (parts : ScriptParts) (before : List (ℕ × Item)) → AreNext parts before l.wave → IsRight parts before l.fn.engine.node →
           (done : List (ℕ × Item)) × (done ++ drop l.line-index l.wave ≡ before ++ l.wave) × AreNext parts done (drop l.line-index l.wave) × IsRight parts done l.engine.node
-          × (IsKept (state l.fn.disk) l.fn.engine → IsKept (state l.disk) l.engine);
-      measured : (room : ℕ) → IsMeasured room (state l.fn.disk) l.fn.engine → IsMeasured room (state l.disk) l.engine;
-      calm : IsCalm (faults l.fn.disk) (faults l.disk) (full l.fn.disk) (full l.disk);
+          × (IsKept (state l.fn.disk).told l.fn.engine → IsKept (state l.disk).told l.engine);
+      measured : (room : ℕ) → IsMeasured room (state l.fn.disk).told l.fn.engine → IsMeasured room (state l.disk).told l.engine;
+      calm : IsCalm (state l.fn.disk) (state l.disk);
     }

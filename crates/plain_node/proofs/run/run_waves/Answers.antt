@@ -6,6 +6,7 @@ use Rattle.std.proofs.Common.{append_assoc, append-nil, subst}
 use Rattle.std.proofs.lemmas.List.{drop_all}
 use Rattle.plain_node.specs.Lined.{IsRight}
 use Rattle.plain_node.proofs.LineLemmas.{drop-item, AreNext-split}
+use Rattle.plain_node.proofs.EndLemmas.{one-fault-since}
 use Rattle.plain_node.proofs.run.run_waves.Goals as goal
 
 pub run_wave-requires : goal.run_wave-requires
@@ -32,7 +33,7 @@ loop-wave-preserved g c =
             λ kept. wave.1 (so_far.4 kept),
           );
       measured = λ room has. c.in_default.ensures.measured room (c.loop-wave.invariant.measured room has);
-      calm = (c.in_default.ensures.calm.0 ∙ c.loop-wave.invariant.calm.0, c.in_default.ensures.calm.1 ∙ c.loop-wave.invariant.calm.1);
+      calm = record { faults = c.in_default.ensures.calm.faults ∙ c.loop-wave.invariant.calm.faults; full = c.in_default.ensures.calm.full ∙ c.loop-wave.invariant.calm.full };
     }
 
 pub returns-clause-went : goal.returns-clause-went
@@ -51,8 +52,8 @@ returns-in-Err-clause-lost g c = λ fault parts next r.
     let split = AreNext-split parts so_far.0 c.wave-item.result rest (rw cut at so_far.2) in
     let calm = c.loop-wave.invariant.calm in
     let lost = c.in-Err.ensures.lost fault parts so_far.0 split.0 so_far.3 in
-    (lost.0, λ kept one. lost.1 (so_far.4 kept) (rw (calm.0, calm.1) one))
+    (lost.0, λ kept one. lost.1 (so_far.4 kept) (one-fault-since _ _ _ calm one))
 
 pub returns-in-Err-clause-full : goal.returns-in-Err-clause-full
 returns-in-Err-clause-full g c = λ fault room has few.
-    c.in-Err.ensures.full fault room (c.loop-wave.invariant.measured room has) few ∙ c.loop-wave.invariant.calm.1
+    c.in-Err.ensures.full fault room (c.loop-wave.invariant.measured room has) few ∙ c.loop-wave.invariant.calm.full

@@ -2,7 +2,8 @@ use Rattle.std.proofs.Common.{◌≡◌, ℕ, List, [], ◌++◌, drop}
 use Rattle.script_text.specs.declared.item.Item.{Item}
 use Rattle.script_text.specs.ScriptParts.{ScriptParts}
 use Rattle.script_text.specs.Reading.{joined}
-use Rattle.plain_node.specs.Engine.{CanGo, IsCalm, IsKept}
+use Rattle.rac_disk.specs.State.{IsCalm}
+use Rattle.plain_node.specs.Engine.{CanGo, IsKept}
 use Rattle.plain_node.specs.Lined.{AreNext, IsRight}
 use Rattle.plain_node.specs.RedoSize.{IsMeasured}
 use Rattle.plain_node.proofs.run.run_waves.Given as goal
@@ -11,13 +12,11 @@ use Rattle.plain_node.proofs.run.run_waves.Given as goal
 abbrev pub invariant-loop-wave : goal.invariant-loop-wave
 invariant-loop-wave g l =
     let state = g.D.SharedDisk.state in
-    let faults = g.D.SharedDisk.faults in
-    let full = g.D.SharedDisk.full in
     record {
       runs : CanGo l.engine (joined (drop l.wave-index l.waves));
       went : (parts : ScriptParts) → AreNext parts [] (joined l.waves) → IsRight parts [] l.fn.engine.node →
           (done : List (ℕ × Item)) × (done ++ joined (drop l.wave-index l.waves) ≡ joined l.waves) × AreNext parts done (joined (drop l.wave-index l.waves)) × IsRight parts done l.engine.node
-          × (IsKept (state l.fn.disk) l.fn.engine → IsKept (state l.disk) l.engine);
-      measured : (room : ℕ) → IsMeasured room (state l.fn.disk) l.fn.engine → IsMeasured room (state l.disk) l.engine;
-      calm : IsCalm (faults l.fn.disk) (faults l.disk) (full l.fn.disk) (full l.disk);
+          × (IsKept (state l.fn.disk).told l.fn.engine → IsKept (state l.disk).told l.engine);
+      measured : (room : ℕ) → IsMeasured room (state l.fn.disk).told l.fn.engine → IsMeasured room (state l.disk).told l.engine;
+      calm : IsCalm (state l.fn.disk) (state l.disk);
     }

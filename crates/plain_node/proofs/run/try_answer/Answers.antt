@@ -8,7 +8,6 @@ use Rattle.plain_node.proofs.StepLemmas.{IsSound-got, IsSound-put, IsSound-commi
 use Rattle.script_text.specs.Asked.{asked}
 use Rattle.plain_node.proofs.LinedSteps.{IsLined-opened, IsLined-got, IsLined-put, IsLined-committed}
 use Rattle.plain_node.proofs.FitsLemmas.{Fits-opened, Fits-got, Fits-put, Fits-committed}
-use Rattle.plain_node.proofs.RedoSizeLemmas.{measured-got, measured-opened}
 use Rattle.plain_node.proofs.run.try_answer.Goals as goal
 
 pub returns-in-Get-clause-sound : goal.returns-in-Get-clause-sound
@@ -175,11 +174,11 @@ returns-in-Commit-clause-named g c =
 pub returns-in-Session-clause-measured : goal.returns-in-Session-clause-measured
 returns-in-Session-clause-measured g c =
     on_ok_weaker c.open.result
-    (λ e room has. rw e (measured-opened room (g.D.SharedDisk.state c.args.disk.now) c.args.engine.now c.in-Session.session c.in-Session.inst has))
+    (λ e room has. rw e has)
     c.open.ensures.opened
 
 pub returns-in-Get-clause-measured : goal.returns-in-Get-clause-measured
 returns-in-Get-clause-measured g c =
     on_ok_weaker c.get.result
-    (λ e room has. rw e (measured-got room (g.D.SharedDisk.state c.args.disk.now) c.args.engine.now c.args.line c.in-Stmt.session c.in-Get.row has))
+    (λ e room has. rw e has)
     c.get.ensures.got

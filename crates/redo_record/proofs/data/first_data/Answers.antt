@@ -1,5 +1,5 @@
 use Rattle.std.proofs.Common.{slice_index, arith, refl, sym, ◌∙◌}
-use Rattle.rac_nums.specs.declared.redo.DataChange.{DataChange}
+use Rattle.redo_types.specs.declared.redo.DataChange.{DataChange}
 use Rattle.part_image.proofs.Numbers.{IsBytes}
 use Rattle.redo_record.proofs.DataLemmas.{DataParts, data_parts, data_ranges, data_read}
 use Rattle.redo_record.proofs.data.first_data.Goals as goal
@@ -18,7 +18,7 @@ returns-then-has_ranges c =
     let fits : IsBytes bytes = λ i. omega (arith, c.type_inv.bytes i) in
     let slot = c.in-Some-read_itl in
     let value = c.in-Some-value_of in
-    let change : DataChange = record { block = record { 0 = c.get_u16.result }; version = c.get_u64-2.result; to = record { row = slice_index bytes 11; lock = slice_index bytes 12; itl = slice_index bytes 13; fresh = c.in-Some.fresh; slot = slot.slot; value = value.value } } in
+    let change : DataChange = record { block = c.get_u16.result; version = c.get_u64-2.result; to = record { row = slice_index bytes 11; lock = slice_index bytes 12; itl = slice_index bytes 13; fresh = c.in-Some.fresh; slot = slot.slot; value = value.value } } in
     let ranges = c.has_ranges.ensures.0 c.if-has_ranges.true in
     let parts : DataParts bytes change = record {
       letter = ranges.letter;

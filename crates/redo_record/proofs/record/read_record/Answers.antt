@@ -1,6 +1,6 @@
 use Rattle.std.proofs.Common.{subst}
-use Rattle.rac_nums.specs.declared.redo.Redo.{Redo}
-use Rattle.rac_nums.specs.declared.redo.RedoKind.{RedoKind}
+use Rattle.redo_types.specs.declared.redo.Redo.{Redo}
+use Rattle.redo_types.specs.declared.redo.RedoKind.{RedoKind}
 use Rattle.part_image.specs.Cells.{StandsAt, spelled}
 use Rattle.redo_record.specs.Parts.{IsRowOf, IsUndoOf, row_place, start_of}
 use Rattle.redo_record.specs.Redo.{cells_of, data_cells}

@@ -1,5 +1,5 @@
 use Rattle.std.proofs.Common.{take}
-use Rattle.rac_nums.specs.Bytes.{Puts}
+use Rattle.base_types.specs.Bytes.{Puts}
 use Rattle.part_image.specs.Cells.{spelled}
 use Rattle.undo_image.specs.Header.{slots_cells}
 use Rattle.undo_image.proofs.header.put_slots.Given as goal

@@ -1,5 +1,5 @@
 use Rattle.std.proofs.Common.{take}
-use Rattle.rac_nums.specs.Bytes.{Puts}
+use Rattle.base_types.specs.Bytes.{Puts}
 use Rattle.part_image.specs.Cells.{spelled}
 use Rattle.undo_image.specs.UndoBlock.{places_cells}
 use Rattle.undo_image.proofs.undo_block.put_places.Given as goal

@@ -24,18 +24,18 @@ left false _ false = refl
 pub returns-in_ok-insert-2 : goal.returns-in_ok-insert-2
 returns-in_ok-insert-2 c = λ w down i.
     let is_down = c.if-is_down.true in
-    let every = c.in_ok-insert.ensures.updates.0 (w, i.0) in
-    let found_down = c.in_ok-insert-2.ensures.updates.0 (w, i.0) in
-    rw is_down (elim down as (λ d. kept (record { ended = c.insert.new.self; found_down = c.insert-then-is_down.new.self }) w d i ≡ (kept c.args.self.now w d i || ((c.args.inst.0 == i.0) && not (d && not true) && (c.args.wave == w)))) [
-      | true ↦ found_down ∙ put (c.args.inst.0 == i.0) (c.args.wave == w) (kept c.args.self.now w true i)
-      | false ↦ every ∙ put (c.args.inst.0 == i.0) (c.args.wave == w) (kept c.args.self.now w false i)
+    let every = c.in_ok-insert.ensures.updates.0 (w, i) in
+    let found_down = c.in_ok-insert-2.ensures.updates.0 (w, i) in
+    rw (← c.inst.view_is, is_down) (elim down as (λ d. kept (record { ended = c.insert.new.self; found_down = c.insert-then-is_down.new.self }) w d i ≡ (kept c.args.self.now w d i || ((c.inst.inside.0 == i) && not (d && not true) && (c.args.wave == w)))) [
+      | true ↦ found_down ∙ put (c.inst.inside.0 == i) (c.args.wave == w) (kept c.args.self.now w true i)
+      | false ↦ every ∙ put (c.inst.inside.0 == i) (c.args.wave == w) (kept c.args.self.now w false i)
     ])
 
 pub returns-else-is_down : goal.returns-else-is_down
 returns-else-is_down c = λ w down i.
     let is_up = c.if-is_down.false in
-    let every = c.in_ok-insert.ensures.updates.0 (w, i.0) in
-    rw is_up (elim down as (λ d. kept (record { ended = c.insert.new.self; found_down = c.args.self.now.found_down }) w d i ≡ (kept c.args.self.now w d i || ((c.args.inst.0 == i.0) && not (d && not false) && (c.args.wave == w)))) [
-      | true ↦ left (c.args.inst.0 == i.0) (c.args.wave == w) (kept c.args.self.now w true i)
-      | false ↦ every ∙ put (c.args.inst.0 == i.0) (c.args.wave == w) (kept c.args.self.now w false i)
+    let every = c.in_ok-insert.ensures.updates.0 (w, i) in
+    rw (← c.inst.view_is, is_up) (elim down as (λ d. kept (record { ended = c.insert.new.self; found_down = c.args.self.now.found_down }) w d i ≡ (kept c.args.self.now w d i || ((c.inst.inside.0 == i) && not (d && not false) && (c.args.wave == w)))) [
+      | true ↦ left (c.inst.inside.0 == i) (c.args.wave == w) (kept c.args.self.now w true i)
+      | false ↦ every ∙ put (c.inst.inside.0 == i) (c.args.wave == w) (kept c.args.self.now w false i)
     ])

@@ -1,6 +1,6 @@
 use Rattle.std.proofs.Common.{ap, Ok, Result}
 use Rattle.std.proofs.lemmas.Result.{err_from_is_err_and}
-use Rattle.rac_nums.specs.declared.blocks.BadBlock.{BadBlock}
+use Rattle.redo_types.specs.declared.blocks.BadBlock.{BadBlock}
 use Rattle.undo_image.specs.Header.{HeaderContent, IsHeader}
 use Rattle.part_image.proofs.Numbers.{IsBytes}
 use Rattle.undo_image.proofs.Headers.{header_where_parts_stand, no_header, one_header, wrong_end, wrong_header_front, wrong_slots}

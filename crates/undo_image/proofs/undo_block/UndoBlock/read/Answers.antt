@@ -1,6 +1,6 @@
 use Rattle.std.proofs.Common.{ap, Ok, Result}
 use Rattle.std.proofs.lemmas.Result.{err_from_is_err_and}
-use Rattle.rac_nums.specs.declared.blocks.BadBlock.{BadBlock}
+use Rattle.redo_types.specs.declared.blocks.BadBlock.{BadBlock}
 use Rattle.undo_image.specs.UndoBlock.{UndoContent, IsUndoBlock}
 use Rattle.part_image.proofs.Numbers.{IsBytes}
 use Rattle.undo_image.proofs.UndoBlocks.{undo_where_parts_stand, no_undo_block, one_undo_block, wrong_end, wrong_undo_front, wrong_places}

@@ -1,0 +1,6 @@
+pub mod Past
+pub mod Standing
+pub mod History
+pub mod Sees
+pub mod Stood
+pub mod Good

@@ -1,6 +1,0 @@
-use Rattle.std.proofs.Common.{◌≡◌, ◌++◌, drop, filter_map}
-use Rattle.log_table.specs.Standing.{undone_by}
-use Rattle.log_table.proofs.changes.add_undone.Given as goal
-
-abbrev pub invariant-loop-redo : goal.invariant-loop-redo
-invariant-loop-redo l = l.undone.items ++ filter_map undone_by (drop l.redo-index l.records) ≡ l.fn.undone.items ++ filter_map undone_by l.records

@@ -1,7 +1,0 @@
-use Rattle.std.proofs.Common.{◌≡◌, ◌++◌, drop, filter_map, flat_map}
-use Rattle.log_table.specs.Logs.{records_of}
-use Rattle.log_table.specs.Standing.{standing_of}
-use Rattle.log_table.proofs.changes.standing_in.Given as goal
-
-abbrev pub invariant-loop-records : goal.invariant-loop-records
-invariant-loop-records l = l.standing.items ++ flat_map (filter_map (standing_of l.undone)) (records_of (drop l.records-index l.threads)) ≡ flat_map (filter_map (standing_of l.undone)) (records_of l.threads)

@@ -1,7 +1,0 @@
-use Rattle.std.proofs.Common.{◌≡◌, ◌++◌, drop, filter_map, flat_map}
-use Rattle.log_table.specs.Logs.{records_of}
-use Rattle.log_table.specs.Standing.{undone_by}
-use Rattle.log_table.proofs.changes.undone_in.Given as goal
-
-abbrev pub invariant-loop-records : goal.invariant-loop-records
-invariant-loop-records l = l.undone.items ++ flat_map (filter_map undone_by) (records_of (drop l.records-index l.threads)) ≡ flat_map (filter_map undone_by) (records_of l.threads)

@@ -1,6 +1,0 @@
-use Rattle.std.proofs.Common.{[], ◌∙◌, ap}
-use Rattle.log_table.specs.LogHistory.{in_order}
-use Rattle.log_table.proofs.history.history.Goals as goal
-
-pub returns : goal.returns
-returns c = c.in_ok-lines.ensures ∙ ap (in_order []) (c.in_ok-standing.ensures 0)

@@ -1,7 +1,0 @@
-use Rattle.std.proofs.Common.{◌≡◌, ℕ, List, take}
-use Rattle.log_table.specs.Logs.{AreLogs, bytes_of, records_of, torn_ends}
-use Rattle.log_table.proofs.reading.read_logs.Given as goal
-
-abbrev pub invariant-loop-thread : goal.invariant-loop-thread
-invariant-loop-thread l =
-    (rests : List (List ℕ)) × AreLogs (take l.thread (bytes_of l.logs)) (records_of l.threads.items) rests × (l.torn.items ≡ torn_ends 0 (records_of l.threads.items) rests)

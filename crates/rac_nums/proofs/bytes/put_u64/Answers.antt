@@ -1,6 +1,0 @@
-use Rattle.byteorder.specs.Endian.{big_bytes}
-use Rattle.rac_nums.proofs.BytesLemmas.{Puts-put_mid}
-use Rattle.rac_nums.proofs.bytes.put_u64.Goals as goal
-
-pub returns : goal.returns
-returns c = Puts-put_mid c.args.out.now (big_bytes 8 c.args.number) c.write_u64.new.buf c.args.at c.requires c.write_u64.ensures

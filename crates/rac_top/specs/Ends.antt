@@ -1,0 +1,74 @@
+-- How a call ends, and why.
+use Rattle.std.specs.Prelude.{◌≡◌, ◌⊎◌, ⊤, ℕ, List, Bool, true, false, Option, None, Some, IfSome, Ok, Err}
+use Rattle.rac_io.specs.Counts.{Rose}
+use Rattle.rac_disk.specs.Content.{Content}
+use Rattle.rac_disk.specs.State.{State}
+use Rattle.log_history.specs.Logs.{IsFirstWrong}
+use Rattle.log_audit.specs.Audits.{logs_in}
+use Rattle.script_text.specs.declared.rule.Rule.{Rule}
+use Rattle.rac_top.specs.Scripts.{IsRefused}
+use Rattle.rac_top.specs.declared.exit.End.{End}
+use Rattle.rac_top.specs.declared.exit.End.TheVariants.{Done, WrongWords, Refused, ReadFault, WriteFault}
+use Rattle.rac_top.specs.declared.exit.End.TheVariants.{NotCreated, DiskFault, LogsUnread, NoMemory, BadLog}
+
+-- the exit status of an end
+abbrev pub status_of : End → ℕ
+status_of Done = 0
+status_of WrongWords = 2
+status_of (Refused line rule) = 3
+status_of ReadFault = 4
+status_of WriteFault = 5
+status_of NotCreated = 6
+status_of DiskFault = 6
+status_of LogsUnread = 6
+status_of NoMemory = 7
+status_of (BadLog thread place) = 9
+
+-- the ends of a run or an audit of which something was to be written: the report or the text, whole or in part
+abbrev pub is_told : End → Bool
+is_told Done = true
+is_told WriteFault = true
+is_told DiskFault = true
+is_told _ = false
+
+-- the ends at which the disk was not touched
+abbrev pub is_before_disk : End → Bool
+is_before_disk WrongWords = true
+is_before_disk (Refused line rule) = true
+is_before_disk ReadFault = true
+is_before_disk _ = false
+
+-- all was done, or memory ran out
+abbrev pub is_done : End → Bool
+is_done Done = true
+is_done NoMemory = true
+is_done _ = false
+
+-- one of the two counts of a disk's failed calls rose, or stands at its end
+abbrev pub DiskFailed : State → State → Type 0
+DiskFailed old new = Rose old.faults new.faults ⊎ Rose old.full new.full
+
+-- Why a run ends as it does: the text says so, or a count of what goes wrong rose. Want of memory names no cause.
+abbrev pub RunEndsFor : End → Option (List ℕ) → Type 0 → Type 0 → State → State → Type 0
+RunEndsFor Done left SourceFailed SinkFailed disk disk_now = ⊤
+RunEndsFor (Refused line rule) left SourceFailed SinkFailed disk disk_now = IsRefused left line rule
+RunEndsFor ReadFault left SourceFailed SinkFailed disk disk_now = SourceFailed
+RunEndsFor WriteFault left SourceFailed SinkFailed disk disk_now = SinkFailed
+RunEndsFor NotCreated left SourceFailed SinkFailed disk disk_now = DiskFailed disk disk_now
+RunEndsFor DiskFault left SourceFailed SinkFailed disk disk_now = DiskFailed disk disk_now
+RunEndsFor NoMemory left SourceFailed SinkFailed disk disk_now = ⊤
+RunEndsFor _ left SourceFailed SinkFailed disk disk_now = ⊥
+
+-- Why an audit ends as it does: a log of the disk says so, or a count of what goes wrong rose.
+abbrev pub AuditEndsFor : End → Type 0 → State → State → Type 0
+AuditEndsFor Done SinkFailed disk disk_now = ⊤
+AuditEndsFor WriteFault SinkFailed disk disk_now = SinkFailed
+AuditEndsFor LogsUnread SinkFailed disk disk_now = Rose disk.faults disk_now.faults
+AuditEndsFor NoMemory SinkFailed disk disk_now = ⊤
+AuditEndsFor (BadLog thread place) SinkFailed disk disk_now =
+    IfSome disk.told (λ it. IsFirstWrong (logs_in it) thread place)
+AuditEndsFor _ SinkFailed disk disk_now = ⊥
+
+-- a count of what goes wrong stayed, below its end
+abbrev pub Stayed : ℕ → ℕ → Type 0
+Stayed before now = Rose before now → ⊥

@@ -1,0 +1,63 @@
+ghost use Rattle.std.specs.Prelude.{◌≡◌, [], ◌⊎◌, IfSome, IsSomeAnd, Some, true, false};
+ghost use Rattle.rac_io.specs.Counts.{Counts, Rose};
+ghost use Rattle.rac_top.specs.Audits.{HasGoodLogs, WritesHistory, end_of};
+ghost use Rattle.rac_top.specs.Ends.{AuditEndsFor, Stayed, is_done, is_told};
+ghost use Rattle.rac_top.specs.Runs.{IsWritten, ReportEnds};
+
+use crate::exit::{End, Exit};
+use log_audit::{AuditError, audit as audit_logs};
+use rac_disk::SharedDisk;
+use rac_io::{Sink, WriteFault, write_whole};
+use std::alloc::Global;
+
+/// Writes the text of an audit, and tells how the audit ends.
+fn write_text<K: Sink>(text: &[u8], sink: &mut K) -> End
+    ensures end { ReportEnds false result }
+    ensures written { IsWritten result text.now (K.holds sink.old) (K.holds sink.new) }
+    ensures cause { result ≡ End.WriteFault → Rose (K.faults sink.old) (K.faults sink.new) ⊎ Rose (K.stalls sink.old) (K.stalls sink.new) }
+{
+    match write_whole(sink, text) {
+        Ok(()) => End::Done,
+        Err(WriteFault::Failed) => End::WriteFault,
+        Err(WriteFault::Stalled) => End::WriteFault,
+    }
+}
+
+/// How an audit ends that told nothing.
+fn end_of(why: AuditError) -> End
+    ensures { result ≡ end_of why }
+{
+    match why {
+        AuditError::Failed => End::LogsUnread,
+        AuditError::BadLog { thread, place } => End::BadLog { thread, place },
+        AuditError::NoMemory => End::NoMemory,
+    }
+}
+
+/// Reads the logs of the disk, and writes the history that they tell. It changes nothing.
+///
+/// Where the sink or the disk doesn't tell what it holds, the clauses that speak of that claim nothing.
+pub fn audit<K: Sink, D: SharedDisk>(alloc: Global, sink: &mut K, disk: &mut D) -> Exit
+    // Why it ends as it does.
+    ensures cause { AuditEndsFor result.end (Rose (K.faults sink.old) (K.faults sink.new) ⊎ Rose (K.stalls sink.old) (K.stalls sink.new))
+        (D.state disk.old) (D.state disk.new) }
+    ensures unread { Counts (result.end ≡ End.LogsUnread) (D.state disk.old).faults (D.state disk.new).faults }
+    // What is written.
+    ensures told { is_told result.end ≡ true →
+        IfSome (D.state disk.old).told (WritesHistory result.end (K.holds sink.old) (K.holds sink.new)) }
+    ensures good_logs { is_told result.end ≡ true → IfSome (D.state disk.old).told HasGoodLogs }
+    ensures silent { is_told result.end ≡ false → sink.new ≡ sink.old }
+    // It changes nothing, and runs nothing.
+    ensures kept { IfSome (D.state disk.old).told (λ it. (D.state disk.new).told ≡ Some it) }
+    ensures full { (D.state disk.new).full ≡ (D.state disk.old).full }
+    ensures no_run { result.journal ≡ [] }
+    // Where nothing goes wrong all is done, or memory ran out.
+    ensures completes { IsSomeAnd (D.state disk.old).told HasGoodLogs → Stayed (D.state disk.old).faults (D.state disk.new).faults →
+        Stayed (K.faults sink.old) (K.faults sink.new) → Stayed (K.stalls sink.old) (K.stalls sink.new) →
+        is_done result.end ≡ true }
+{
+    match audit_logs(alloc, disk) {
+        Ok(text) => Exit::without_run(alloc, write_text(text.as_slice(), sink)),
+        Err(why) => Exit::without_run(alloc, end_of(why)),
+    }
+}

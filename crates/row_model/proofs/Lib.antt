@@ -1,8 +1,0 @@
-pub mod EachLemmas
-pub mod HistoryLemmas
-pub mod XidLemmas
-pub mod PastLemmas
-pub mod DeedLemmas
-pub mod HolderLemmas
-pub mod PlaceLemmas
-pub mod CheckLemmas

@@ -1,9 +1,0 @@
-use Rattle.std.proofs.Common.{reverse, take}
-use Rattle.row_model.specs.Past.{Each}
-use Rattle.row_model.specs.History.{history}
-use Rattle.row_model.specs.Place.{IsGoodAt}
-use Rattle.row_model.proofs.checks.check.Given as goal
-
--- each entry so far is good
-abbrev pub invariant-loop-at : goal.invariant-loop-at
-invariant-loop-at l = Each (IsGoodAt l.script_rows (history l.journal)) (reverse (take l.at l.journal))

@@ -1,7 +1,0 @@
-use Rattle.std.proofs.Common.{◌≡◌, ◌++◌, map, drop}
-use Rattle.row_model.specs.History.{changes_up_to}
-use Rattle.row_model.specs.Values.{as_change, as_commit}
-use Rattle.row_model.proofs.commits.add_up_to.Given as goal
-
-abbrev pub invariant-loop-commit : goal.invariant-loop-commit
-invariant-loop-commit l = map as_change l.changes.items ++ changes_up_to l.s.0 (map as_commit (drop l.commit-index l.commits)) ≡ map as_change l.fn.changes.items ++ changes_up_to l.s.0 (map as_commit l.commits)

@@ -1,7 +1,0 @@
-use Rattle.std.proofs.Common.{◌≡◌, ◌++◌, map, drop}
-use Rattle.row_model.specs.Good.{changes_in}
-use Rattle.row_model.specs.Values.{as_change, as_commit}
-use Rattle.row_model.proofs.commits.changes_in.Given as goal
-
-abbrev pub invariant-loop-commit : goal.invariant-loop-commit
-invariant-loop-commit l = map as_change l.changes.items ++ changes_in (map as_commit (drop l.commit-index l.commits)) ≡ changes_in (map as_commit l.commits)

@@ -1,8 +1,0 @@
-use Rattle.std.proofs.Common.{◌≡◌, ◌++◌, map, take, drop}
-use Rattle.row_model.specs.History.{entered}
-use Rattle.row_model.specs.Values.{as_commit}
-use Rattle.row_model.proofs.commits.place_among.Given as goal
-
--- the commits so far stay before it
-abbrev pub invariant-loop-at : goal.invariant-loop-at
-invariant-loop-at l = entered (as_commit l.commit) (map as_commit l.commits) ≡ map as_commit (take l.at l.commits) ++ entered (as_commit l.commit) (map as_commit (drop l.at l.commits))

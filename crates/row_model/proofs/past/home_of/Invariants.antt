@@ -1,8 +1,0 @@
-use Rattle.std.proofs.Common.{◌≡◌, reverse, take}
-use Rattle.std.specs.Option.{option_map}
-use Rattle.rac_nums.specs.declared.names.InstNo.{InstNo}
-use Rattle.row_model.specs.Past.{home_of}
-use Rattle.row_model.proofs.past.home_of.Given as goal
-
-abbrev pub invariant-loop-entry : goal.invariant-loop-entry
-invariant-loop-entry l = option_map (λ (i : InstNo). i.0) l.home ≡ home_of l.session (reverse (take l.entry-index l.past))

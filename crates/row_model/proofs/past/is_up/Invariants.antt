@@ -1,6 +1,0 @@
-use Rattle.std.proofs.Common.{◌≡◌, reverse, take}
-use Rattle.row_model.specs.Past.{is_up}
-use Rattle.row_model.proofs.past.is_up.Given as goal
-
-abbrev pub invariant-loop-entry : goal.invariant-loop-entry
-invariant-loop-entry l = l.up ≡ is_up l.inst.0 (reverse (take l.entry-index l.past))

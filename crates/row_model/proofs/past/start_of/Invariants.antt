@@ -1,8 +1,0 @@
-use Rattle.std.proofs.Common.{◌≡◌, reverse, take}
-use Rattle.std.specs.Option.{option_map}
-use Rattle.row_model.specs.Past.{start_of}
-use Rattle.row_model.specs.Values.{as_start}
-use Rattle.row_model.proofs.past.start_of.Given as goal
-
-abbrev pub invariant-loop-entry : goal.invariant-loop-entry
-invariant-loop-entry l = option_map as_start l.start ≡ start_of l.stmt (reverse (take l.entry-index l.past))

@@ -1,7 +1,0 @@
-use Rattle.std.proofs.Common.{◌↔◌, drop}
-use Rattle.row_model.specs.Checked.{AreBelow}
-use Rattle.row_model.proofs.place.are_below.Given as goal
-
--- the rows so far are below
-abbrev pub invariant-loop-item : goal.invariant-loop-item
-invariant-loop-item l = AreBelow l.script_rows l.rows ↔ AreBelow l.script_rows (drop l.item-index l.rows)

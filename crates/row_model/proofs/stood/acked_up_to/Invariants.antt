@@ -1,6 +1,0 @@
-use Rattle.std.proofs.Common.{◌≡◌, reverse, take}
-use Rattle.row_model.specs.Stood.{acked_up_to}
-use Rattle.row_model.proofs.stood.acked_up_to.Given as goal
-
-abbrev pub invariant-loop-entry : goal.invariant-loop-entry
-invariant-loop-entry l = l.acked.0 ≡ acked_up_to (reverse (take l.entry-index l.past))

@@ -1,6 +1,0 @@
-use Rattle.std.proofs.Common.{◌≡◌, reverse, take}
-use Rattle.row_model.specs.Stood.{started_up_to}
-use Rattle.row_model.proofs.stood.started_up_to.Given as goal
-
-abbrev pub invariant-loop-entry : goal.invariant-loop-entry
-invariant-loop-entry l = l.started.0 ≡ started_up_to l.session (reverse (take l.entry-index l.past))

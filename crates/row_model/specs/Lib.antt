@@ -1,9 +1,0 @@
-pub mod Past
-pub mod Standing
-pub mod History
-pub mod Sees
-pub mod Stood
-pub mod Good
-pub mod Checked
-pub mod Place
-pub mod Values
