@@ -1,5 +1,5 @@
 -- What the calls of a book and of its seats promise.
-use Rattle.std.specs.Prelude.{◌≡◌, ◌≢◌, ℕ, ◌<◌, ◌||◌, List, [], ◌++◌, length, Bool, true, false, Option, Some, None}
+use Rattle.std.specs.Prelude.{◌≡◌, ◌≢◌, ℕ, ◌<◌, ◌^◌, ◌||◌, List, [], ◌++◌, length, Bool, true, false, Option, Some, None}
 use Rattle.atomic_table.specs.Seated.{TableId}
 use Rattle.atomic_table.specs.declared.shared.Seat.{Seat}
 use Rattle.step_book.specs.Actors.{Rules, Follows, MayWork, Turns, Reaches, OfOthers, StartsWith}
@@ -14,7 +14,7 @@ use Rattle.step_book.specs.declared.board.Stage.TheVariants.{Idle}
 
 -- two words and a slot, and fewer than 2 ^ 32 parts
 abbrev pub IsSized : {P H : Type 0} → TableId → Start P H → Type 0
-IsSized table start = (table.words ≡ 2) × (table.slots ≡ 1) × (length start.parts.value.items < 4294967296)
+IsSized table start = (table.words ≡ 2) × (table.slots ≡ 1) × (length start.parts.value.items < 2 ^ 32)
 
 abbrev pub is_finished : Turn → Bool
 is_finished Finished = true

@@ -18,6 +18,7 @@ pub struct Book<M: Machine> {
 }
 
 /// What a book leaves.
+#[derive(Drop)]
 pub struct Closed<M: Machine> {
     /// The shared value as the last turn left it.
     pub shared: M::Shared,
