@@ -1,5 +1,5 @@
 -- What the program does.
-use Rattle.std.specs.Prelude.{◌≡◌, ◌⊎◌, ⊤, ℕ, List, Bool, Option, None, Some, IsSome}
+use Rattle.std.specs.Prelude.{◌≡◌, ◌⊎◌, ℕ, List, [], Option, None, Some, IsSome}
 use Rattle.rac_disk.specs.State.{State}
 use Rattle.cli_words.specs.declared.order.Order.{Order}
 use Rattle.cli_words.specs.declared.order.Order.TheVariants.{Run, Audit}
@@ -14,6 +14,10 @@ abbrev pub folder_in : Option Order → Option (List ℕ)
 folder_in (Some (Run journal folder)) = folder
 folder_in (Some (Audit folder)) = Some folder
 folder_in None = None
+
+-- Memory ran out before there was a disk: nothing was read, run or written.
+abbrev pub RanOut : Exit → Type 0 → Type 0 → Type 0
+RanOut exit SourceStays SinkStays = (exit.end ≡ NoMemory) × (exit.journal ≡ []) × SourceStays × SinkStays
 
 -- The program ran or audited, as its words ask, over a disk that tells what it holds and had counted no failed call
 -- as it was opened; or its words were wrong; or memory ran out.

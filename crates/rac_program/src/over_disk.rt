@@ -1,7 +1,6 @@
-ghost use Rattle.std.specs.Prelude.{◌≡◌, ◌↔◌, IfOk, IfSome, None, Some, map, string_bytes};
-ghost use Rattle.std.specs.Option.{option_map};
+ghost use Rattle.std.specs.Prelude.{◌≡◌, ◌⊎◌, IfOk, map, string_bytes};
 ghost use Rattle.cli_words.specs.Orders.{order_in};
-ghost use Rattle.rac_program.specs.Program.{Does, folder_in};
+ghost use Rattle.rac_program.specs.Program.{Does, RanOut, folder_in};
 
 use base_types::NoMemory;
 use cli_words::{Folder, Order, WordsError, read_words};
@@ -38,7 +37,7 @@ pub fn program<R: Files + AllocGlobal, S: Source, K: Sink>(
     source: &mut S,
     sink: &mut K,
 ) -> Exit
-    ensures { Does (order_in (map string_bytes words.now)) (S.left source.old) (S.left source.new) (S.faults source.old) (S.faults source.new)
+    ensures { RanOut result (source.new ≡ source.old) (sink.new ≡ sink.old) ⊎ Does (order_in (map string_bytes words.now)) (S.left source.old) (S.left source.new) (S.faults source.old) (S.faults source.new)
         (K.holds sink.old) (K.holds sink.new) (K.faults sink.old) (K.faults sink.new) (K.stalls sink.old) (K.stalls sink.new) result }
 {
     let alloc = rt.alloc();
