@@ -1,11 +1,13 @@
-//! Runs the example scripts that lie in its folder, and tells of each whether it gives what stands beside it.
+//! Runs the example scripts that lie in its folder, and tells of each whether it gives what stands beside it; then runs
+//! the program itself over a folder, audits that, and names a folder that isn't there.
 #![tactic(auto)]
 
 ghost use Rattle.std.specs.Prelude.{◌≡◌, IsTrue, ◌↔◌};
 
+use base_types::NoMemory;
 use rac_disk::MemDisk;
 use rac_io::{MemSink, MemSource};
-use base_types::NoMemory;
+use rac_program::program;
 use rac_top::{End, Exit, rac};
 use std::alloc::{AllocError, Global};
 use std::process::ExitCode;
@@ -27,11 +29,11 @@ const EXAMPLES: [&str; 3] = ["first", "waves", "redo"];
 /// The example whose redo is audited.
 const AUDITED: &str = "redo";
 
-/// Whether a call ended well, with just the wanted bytes.
-fn is_expected(exit: &Exit, sink: &MemSink, want: &[u8]) -> bool
-    ensures { IsTrue result ↔ (exit.now.end ≡ End.Done) × (sink.now.holds ≡ want.now) }
+/// Whether a call ended so, with just the wanted bytes.
+fn is_expected(exit: &Exit, sink: &MemSink, end: &End, want: &[u8]) -> bool
+    ensures { IsTrue result ↔ (exit.now.end ≡ end.now) × (sink.now.holds ≡ want.now) }
 {
-    exit.end == End::Done && sink.bytes() == want
+    exit.end == *end && sink.bytes() == want
 }
 
 /// The words of a call.
@@ -55,7 +57,30 @@ fn gives(
     let mut source = MemSource::new(script, Vec::new(alloc));
     let mut sink = MemSink::new(alloc, SINK_BYTES, Vec::new(alloc))?;
     let exit = rac(alloc, words.as_slice(), &mut source, &mut sink, disk);
-    Ok(is_expected(&exit, &sink, want))
+    Ok(is_expected(&exit, &sink, &End::Done, want))
+}
+
+/// Whether a call of the program itself, over the folder that its words name, ends so with the wanted bytes.
+fn program_gives<R: Files + AllocGlobal>(
+    rt: &R,
+    words: &[&str],
+    script: Vec<u8>,
+    end: &End,
+    want: &[u8],
+) -> Result<bool, NoMemory> {
+    let alloc = rt.alloc();
+    let words = owned_words(alloc, words)?;
+    let mut source = MemSource::new(script, Vec::new(alloc));
+    let mut sink = MemSink::new(alloc, SINK_BYTES, Vec::new(alloc))?;
+    let exit = program(rt, words.as_slice(), &mut source, &mut sink);
+    Ok(is_expected(&exit, &sink, end, want))
+}
+
+/// Tells whether a call gave what is expected.
+fn tell<R: AllocGlobal + Print>(rt: &R, title: &str, is_same: bool) -> io::Result<bool> {
+    let outcome = if is_same { "as expected" } else { "differs" };
+    println!(rt; "{title}: {outcome}")?;
+    Ok(is_same)
 }
 
 /// Makes a call, compares what it gives with a file, and tells of the outcome.
@@ -69,9 +94,7 @@ fn compare<R: Files + AllocGlobal + Print>(
 ) -> io::Result<bool> {
     let want = fs::read(rt, file)?;
     let is_same = gives(rt.alloc(), words, script, disk, want.as_slice()).map_err(|_| AllocError)?;
-    let outcome = if is_same { "as expected" } else { "differs" };
-    println!(rt; "{title}: {outcome}")?;
-    Ok(is_same)
+    tell(rt, title, is_same)
 }
 
 /// Runs the script NAME.rac over a disk, and compares its report with NAME.out.
@@ -123,7 +146,34 @@ fn run_examples<R: Files + AllocGlobal + Print>(rt: &R) -> io::Result<bool> {
     Ok(all_same)
 }
 
+/// Runs the program itself over the folder where it is run, audits that, and names a folder that isn't there.
+fn run_program<R: Files + AllocGlobal + Print>(rt: &R) -> io::Result<bool> {
+    let script = fs::read(rt, "redo.rac")?;
+    let report = fs::read(rt, "redo.out")?;
+    let run = ["run", "--disk", "."];
+    let ran = program_gives(rt, &run, script, &End::Done, report.as_slice()).map_err(
+        |_| AllocError,
+    )?;
+    let mut all_same = tell(rt, "the program over a folder", ran)?;
+
+    let history = fs::read(rt, "redo.audit")?;
+    let audit = ["audit", "--disk", "."];
+    let none = Vec::new(rt.alloc());
+    let audited = program_gives(rt, &audit, none, &End::Done, history.as_slice()).map_err(
+        |_| AllocError,
+    )?;
+    all_same &= tell(rt, "the program's audit of it", audited)?;
+
+    let script = fs::read(rt, "redo.rac")?;
+    let run_nowhere = ["run", "--disk", "missing"];
+    let refused = program_gives(rt, &run_nowhere, script, &End::NotCreated, b"").map_err(
+        |_| AllocError,
+    )?;
+    all_same &= tell(rt, "the program over no folder", refused)?;
+    Ok(all_same)
+}
+
 fn main(rt: HostRuntime) -> io::Result<ExitCode> {
-    let all_same = run_examples(&rt)?;
+    let all_same = run_examples(&rt)? & run_program(&rt)?;
     Ok(ExitCode::from(u8::from(!all_same)))
 }
