@@ -1,5 +1,5 @@
 -- A commit later than all before it enters the history first, and leaves the table at every earlier SCN alone.
-use Rattle.std.proofs.Common.{◌≡◌, ℕ, ◌+◌, ◌<◌, ◌≤◌, List, [], ◌∷◌, ◌++◌, Bool, true, false, cond, max, ◌==◌, Option, Some, None, IsSomeAnd, refl, ap, subst, arith}
+use Rattle.std.proofs.Common.{◌≡◌, ℕ, ◌<◌, ◌≤◌, List, [], ◌∷◌, ◌++◌, Bool, true, false, cond, max, ◌==◌, Option, Some, None, IsSomeAnd, refl, ap, subst, arith}
 use Rattle.std.proofs.lemmas.Bool.{le-ltb, lt-leb, ne_eqb}
 use Rattle.journal.specs.declared.entry.Entry.{Entry}
 use Rattle.journal.specs.declared.entry.Entry.TheVariants.{Started, Rows, Changed}
@@ -7,14 +7,10 @@ use Rattle.journal.specs.declared.deeds.Start.{Start}
 use Rattle.journal.specs.declared.deeds.Change.{Change}
 use Rattle.journal.specs.declared.deeds.Commit.{Commit}
 use Rattle.journal.specs.Past.{Past, Each, start_of, start_after}
-use Rattle.journal.specs.History.{entered, changes_up_to, value_by}
+use Rattle.journal.specs.History.{entered, changes_up_to, value_by, UpTo}
+use Rattle.journal.specs.Stood.{latest_start, latest_start_after}
 use Rattle.journal.specs.Sees.{sees, own_changes}
 use Rattle.journal.specs.Good.{Range, listed, RowsAreSeen, FoundIsSeen}
-
--- no commit is above an SCN
-abbrev pub UpTo : ℕ → List Commit → Type 0
-UpTo known [] = Unit {0}
-UpTo known (commit ∷ older) = (commit.commit_scn ≤ known) × UpTo known older
 
 pub UpTo-le : (a b : ℕ) (commits : List Commit) → a ≤ b → UpTo a commits → UpTo b commits
 UpTo-le a b [] le h = tt
@@ -29,15 +25,6 @@ entered-latest a known (b ∷ older) h above =
 
 pub changes_up_to-latest : (a : Commit) (s : ℕ) (commits : List Commit) → s < a.commit_scn → changes_up_to s (a ∷ commits) ≡ changes_up_to s commits
 changes_up_to-latest a s commits above = rw (lt-leb a.commit_scn s above) refl
-
--- the latest SCN of a start
-abbrev pub latest_start_after : Entry → ℕ → ℕ
-latest_start_after (Started n z s) before = max s before
-latest_start_after _ before = before
-
-abbrev pub latest_start : Past → ℕ
-latest_start [] = 0
-latest_start (e ∷ past) = latest_start_after e (latest_start past)
 
 latest_start-after-le : (e : Entry) (before : ℕ) → before ≤ latest_start_after e before
 latest_start-after-le (Started n z s) before = omega arith

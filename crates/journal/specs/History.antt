@@ -1,5 +1,5 @@
 -- The history of a journal: its commits in the order of their SCNs, each with its changes.
-use Rattle.std.specs.Prelude.{ℕ, List, [], ◌∷◌, ◌++◌, Bool, ◌==◌, ◌&&◌, ◌||◌, nat_lt, nat_le, if◌then◌else◌}
+use Rattle.std.specs.Prelude.{ℕ, ◌≤◌, List, [], ◌∷◌, ◌++◌, Bool, ◌==◌, ◌&&◌, ◌||◌, nat_lt, nat_le, if◌then◌else◌}
 use Rattle.base_types.specs.declared.names.Xid.{Xid}
 use Rattle.base_types.specs.declared.value.Value.{Value}
 use Rattle.base_types.specs.declared.value.Value.TheVariants.{Absent}
@@ -55,3 +55,8 @@ changes_up_to snapshot (commit ∷ older) =
 -- the table at an SCN: what a row holds by the commits up to it
 abbrev pub table : List Commit → ℕ → ℕ → Value
 table commits snapshot row = value_by (changes_up_to snapshot commits) row
+
+-- no commit is above an SCN
+abbrev pub UpTo : ℕ → List Commit → Type 0
+UpTo known [] = Unit {0}
+UpTo known (commit ∷ older) = (commit.commit_scn ≤ known) × UpTo known older

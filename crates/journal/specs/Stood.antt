@@ -54,6 +54,15 @@ abbrev pub started_up_to : ℕ → Past → ℕ
 started_up_to session [] = 0
 started_up_to session (e ∷ past) = started_after session e (started_up_to session past)
 
+-- the highest snapshot at which a statement started
+abbrev pub latest_start_after : Entry → ℕ → ℕ
+latest_start_after (Started stmt by snapshot) before = max snapshot before
+latest_start_after _ before = before
+
+abbrev pub latest_start : Past → ℕ
+latest_start [] = 0
+latest_start (e ∷ past) = latest_start_after e (latest_start past)
+
 -- whether the instance of a session came up since the session was opened
 abbrev pub came_up_after : ℕ → Entry → Past → Bool → Bool
 came_up_after session (Opened opened inst) past before = if session == opened then false else before
