@@ -1,3 +1,4 @@
+pub mod BesideLemmas
 pub mod ValueLemmas
 pub mod SoundLemmas
 pub mod StepLemmas

@@ -22,11 +22,10 @@ use Rattle.journal.specs.History.{history}
 use Rattle.journal.specs.declared.deeds.Commit.{Commit}
 use Rattle.journal.proofs.XidLemmas.{same_xid-refl, same_xid-true}
 use Rattle.plain_node.specs.declared.node.Node.{Node}
-use Rattle.plain_node.specs.declared.versions.Pending.{Pending}
-use Rattle.plain_node.specs.Logged.{Logged, WaitsFor, line_of_commit, lines_in, pair_in, pair_of}
+use Rattle.plain_node.specs.Logged.{Logged, WaitsFor, line_of_commit, lines_in, pair_of}
 use Rattle.plain_node.specs.Runs.{IsSound, IsProper}
 use Rattle.plain_node.specs.Slots.{wrap_at, next_xid, IsLeastUsed}
-use Rattle.plain_node.specs.Sound.{Parts, Sound, parts_of, as_pending}
+use Rattle.plain_node.specs.Sound.{Parts, Sound, parts_of}
 use Rattle.plain_node.specs.Steps.{IsOwn, begun, changed, ended_by, opened, started}
 use Rattle.plain_node.specs.Lost.{entered, marked}
 use Rattle.plain_node.proofs.LogLists.{All-append, All-map, All-second, Falls-history, NoneBack, log_history-of_one, changes_for, changes_for-others, changes_in-more, lines-first, lines-more, reverse_first}
@@ -37,10 +36,10 @@ use Rattle.plain_node.proofs.StepLemmas.{IsSound-started, pending-none, reverse_
 -- a change of x, which is the own transaction by then
 pub Logged-changed : (durable waits : List Redo) (past : Past) (old now : Parts) (n : ℕ) (x : Xid) (scn : Scn) (row : RowNo) (held found value : Value)
     → IsRedo (change_record x scn row held value)
-    → changes_in (durable ++ waits) x ≡ reverse (map pair_in old.pending)
+    → changes_in (durable ++ waits) x ≡ reverse (map pair_of old.pending)
     → stood (is_commit x) past ≡ false
     → ((q : Xid) → old.own ≡ Some q → q ≡ x)
-    → now.own ≡ Some x → now.pending ≡ record { row = row; value = value } ∷ old.pending
+    → now.own ≡ Some x → now.pending ≡ record { row = row; found = found; new = value } ∷ old.pending
     → ((k : ℕ) → wrap_at old.slots k ≤ wrap_at now.slots k) → x.wrap ≤ wrap_at now.slots x.slot
     → Logged durable waits past old
     → Logged durable (waits ++ change_record x scn row held value ∷ []) (Changed n x row found value ∷ past) now
@@ -51,8 +50,8 @@ Logged-changed durable waits past old now n x scn row held found value redo own_
           ∙ (append-nil (lines_in made) ∙ logged.lines));
       own = rw (joined, own_is, pending) (changes_in-more made (r ∷ []) x none
           ∙ (ap (λ (cs : List (RowNo × Value)). cs ++ changes_for x (r ∷ [])) own_before
-          ∙ (ap (λ (cs : List (RowNo × Value)). reverse (map pair_in old.pending) ++ cs) one_change
-          ∙ sym (reverse_first (row, value) (map pair_in old.pending)))));
+          ∙ (ap (λ (cs : List (RowNo × Value)). reverse (map pair_of old.pending) ++ cs) one_change
+          ∙ sym (reverse_first (row, value) (map pair_of old.pending)))));
       unused = λ y later. rw joined (changes_in-more made (r ∷ []) y none
           ∙ (ap (λ (cs : List (RowNo × Value)). cs ++ changes_for y (r ∷ [])) (logged.unused y (let le = wraps y.slot in omega arith))
           ∙ changes_for-others y (r ∷ []) (other y later, tt)));
@@ -88,10 +87,6 @@ Logged-changed durable waits past old now n x scn row held found value redo own_
     still : (q : Redo) → WaitsFor old q → WaitsFor now q
     still q h = (h.0, own_is ∙ ap (λ (v : Xid). Some v) (sym (only q.xid h.1)))
 
-pairs : (changes : List Change) → map pair_of changes ≡ map pair_in (map as_pending changes)
-pairs [] = refl
-pairs (change ∷ changes) = ap (λ (ps : List (RowNo × Value)). pair_of change ∷ ps) (pairs changes)
-
 -- the record of a commit, once it is on the disk, tells the commit
 pub lines-committed : (asked : ℕ → Option Range) (durable waits : List Redo) (past : Past) (old : Parts) (n : ℕ) (x : Xid) (c : Scn)
     → old.own ≡ Some x → c ≡ old.scn + 1 → stood (is_commit x) past ≡ false → Sound asked 0 past old → Logged durable waits past old
@@ -123,15 +118,15 @@ lines-committed asked durable waits past old n x c own_is next new_x sound logge
     entered_is : history (Committed x c 0 ∷ Marked n x c ∷ past) ≡ a ∷ commits
     entered_is = history-committed asked 0 past n x c 0 old.known sound.commits (let le = sound.clock in omega arith)
 
-    stand : map as_pending (changes_of (standing x past)) ≡ old.pending
-    stand = ap (map as_pending) (sym (own_changes-own asked 0 past x (sound.own_is ∙ own_is))) ∙ sound.pending
+    stand : changes_of (standing x past) ≡ old.pending
+    stand = sym (own_changes-own asked 0 past x (sound.own_is ∙ own_is)) ∙ sound.pending
 
     changes : changes_in (made ++ r ∷ []) x ≡ reverse (map pair_of (changes_of (standing x past)))
     changes =
         changes_in-more made (r ∷ []) x none
         ∙ (append-nil (changes_in made x)
         ∙ ((rw own_is at logged.own)
-        ∙ ap reverse (sym (pairs (changes_of (standing x past)) ∙ ap (map pair_in) stand))))
+        ∙ sym (ap (λ (changes : List Change). reverse (map pair_of changes)) stand)))
 
 -- the own transaction commits
 pub Logged-committed : (asked : ℕ → Option Range) (durable waits : List Redo) (past : Past) (old now : Parts) (n : ℕ) (x : Xid) (c : Scn)
@@ -164,7 +159,7 @@ module _ (asked : ℕ → Option Range) (durable waits : List Redo) where
   change-logged : (old mid : Node) (n : ℕ) (x : Xid) (row : RowNo) (held found value : Value)
       → IsRedo (change_record x (changed mid n x row found value).scn row held value)
       → mid.journal ≡ (started old n 0).journal → mid.pending ≡ old.pending → mid.own ≡ Some x
-      → changes_in (durable ++ waits) x ≡ reverse (map pair_in (reverse old.pending))
+      → changes_in (durable ++ waits) x ≡ reverse (map pair_of (reverse old.pending))
       → stood (is_commit x) old.journal ≡ false
       → ((q : Xid) → old.own ≡ Some q → q ≡ x)
       → ((k : ℕ) → wrap_at old.slots k ≤ wrap_at mid.slots k) → x.wrap ≤ wrap_at mid.slots x.slot
@@ -175,7 +170,8 @@ module _ (asked : ℕ → Option Range) (durable waits : List Redo) where
       rw journal
       (Logged-changed durable waits (Started n 0 old.known ∷ old.journal) (parts_of old) (parts_of (changed mid n x row found value))
       n x (changed mid n x row found value).scn row held found value redo own_before new_x only own_is
-      (reverse_push mid.pending (record { row = row; value = value }) ∙ ap (λ (ps : List Pending). record { row = row; value = value } ∷ reverse ps) pending)
+      (reverse_push mid.pending (record { row = row; found = found; new = value })
+      ∙ ap (λ (changes : List Change). record { row = row; found = found; new = value } ∷ reverse changes) pending)
       wraps used (Logged-started durable waits old.journal (parts_of old) n 0 old.known logged))
 
   put-open : (old mid : Node) (n : ℕ) (x : Xid) (row : RowNo) (held found value : Value) (y : Xid) → old.own ≡ Some y → x ≡ y → mid ≡ started old n 0
@@ -206,7 +202,7 @@ module _ (asked : ℕ → Option Range) (durable waits : List Redo) where
   put-first old mid n x row held found value k is within x_is mid_is redo sound proper logged =
       change-logged old mid n x row held found value redo (ap (λ (node : Node). node.journal) mid_is) (ap (λ (node : Node). node.pending) mid_is)
       (ap (λ (node : Node). node.own) mid_is ∙ ap (λ (v : Xid). Some v) (sym x_is))
-      (logged.unused x later ∙ ap (λ (ps : List Pending). reverse (map pair_in ps)) (pending-none asked old is sound))
+      (logged.unused x later ∙ ap (λ (ps : List Change). reverse (map pair_of ps)) (pending-none asked old is sound))
       (proper.unused x later)
       (λ q h. absurd (none_some q (sym is ∙ h)))
       (λ j. rw mid_is (wrap_at-begun asked (started old n 0) k j within))

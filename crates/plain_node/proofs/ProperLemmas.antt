@@ -14,13 +14,12 @@ use Rattle.journal.specs.declared.entry.Entry.TheVariants.{Opened, Started, Rows
 use Rattle.journal.specs.Past.{Past, start_of, same_xid, home_of, is_up}
 use Rattle.journal.specs.Standing.{changes_of, standing, is_open, row_of}
 use Rattle.journal.specs.declared.deeds.Change.{Change}
-use Rattle.journal.specs.History.{history, changes_up_to, value_by}
+use Rattle.journal.specs.History.{history, changes_up_to, value_by, UpTo}
 use Rattle.journal.specs.declared.deeds.Commit.{Commit}
 use Rattle.journal.specs.Sees.{own_changes}
-use Rattle.journal.specs.Stood.{stood, started_after, is_mark, is_mark_by, is_commit, is_commit_at, is_commit_by, started_up_to, came_up}
+use Rattle.journal.specs.Stood.{stood, started_after, is_mark, is_mark_by, is_commit, is_commit_at, is_commit_by, started_up_to, came_up, latest_start, latest_start_after}
 use Rattle.journal.specs.Good.{GoodJournal, Range, changes_in, Replays}
 use Rattle.journal.proofs.XidLemmas.{same_xid-refl, same_xid-true, both_true}
-use Rattle.journal.proofs.HistoryLemmas.{UpTo, latest_start, latest_start_after}
 use Rattle.plain_node.specs.Versions.{pending_value, ended_value}
 use Rattle.plain_node.specs.Slots.{wrap_at}
 use Rattle.plain_node.specs.Sound.{Parts, Sound, Proper}

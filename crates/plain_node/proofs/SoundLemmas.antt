@@ -16,19 +16,18 @@ use Rattle.journal.specs.Past.{Past, Each, start_of, same_xid}
 use Rattle.journal.specs.Standing.{changes_of, standing, is_open}
 use Rattle.journal.specs.declared.deeds.Deed.TheVariants.{Changes}
 use Rattle.journal.specs.declared.deeds.Change.{Change}
-use Rattle.journal.specs.History.{history, changes_up_to, value_by}
+use Rattle.journal.specs.History.{history, changes_up_to, value_by, UpTo}
 use Rattle.journal.specs.declared.deeds.Commit.{Commit}
 use Rattle.journal.specs.Sees.{own, own_changes, last_of}
 use Rattle.journal.specs.Good.{Range, listed_before, RowsAreSeen, FoundIsSeen}
 use Rattle.journal.proofs.XidLemmas.{same_xid-refl, same_xid-true}
-use Rattle.journal.proofs.HistoryLemmas.{UpTo, UpTo-le, entered-latest, changes_up_to-latest, EachRows-same, EachFound-same}
+use Rattle.journal.proofs.HistoryLemmas.{UpTo-le, entered-latest, changes_up_to-latest, EachRows-same, EachFound-same}
 use Rattle.plain_node.specs.declared.slots.SlotUse.{SlotUse}
-use Rattle.plain_node.specs.declared.versions.Pending.{Pending}
 use Rattle.plain_node.specs.declared.versions.Version.{Version}
 use Rattle.plain_node.specs.Versions.{pending_value, ended_value}
 use Rattle.plain_node.specs.Slots.{wrap_at, never}
 use Rattle.plain_node.specs.Steps.{version_at}
-use Rattle.plain_node.specs.Sound.{Parts, Sound, as_pending, versions_of}
+use Rattle.plain_node.specs.Sound.{Parts, Sound, versions_of}
 use Rattle.plain_node.proofs.ValueLemmas.{value_by-own, table-ended}
 
 module _ (asked : ℕ → Option Range) (z : ℕ) where
@@ -37,8 +36,8 @@ module _ (asked : ℕ → Option Range) (z : ℕ) where
       → unwrap_or (pending_value row node.pending) (unwrap_or (ended_value s row node.ended) Absent) ≡ value_by (own_changes z past ++ changes_up_to s (history past)) row
   value-seen past node s row sound =
       sym (value_by-own row (own_changes z past) (changes_up_to s (history past))
-      ∙ (ap (λ (v : Value). unwrap_or (pending_value row (map as_pending (own_changes z past))) v) (table-ended s row (history past))
-      ∙ (ap (λ (ps : List Pending). unwrap_or (pending_value row ps) (unwrap_or (ended_value s row (versions_of (history past))) Absent)) sound.pending
+      ∙ (ap (λ (v : Value). unwrap_or (pending_value row (own_changes z past)) v) (table-ended s row (history past))
+      ∙ (ap (λ (ps : List Change). unwrap_or (pending_value row ps) (unwrap_or (ended_value s row (versions_of (history past))) Absent)) sound.pending
       ∙ ap (λ (vs : List Version). unwrap_or (pending_value row node.pending) (unwrap_or (ended_value s row vs) Absent)) sound.ended)))
 
   pub Sound-opened : (past : Past) (node : Parts) (y : ℕ) (i : InstNo) → Sound asked z past node → Sound asked z (Opened y i ∷ past) node
@@ -143,8 +142,8 @@ module _ (asked : ℕ → Option Range) (z : ℕ) where
       → unwrap_or (pending_value row old.pending) (unwrap_or (ended_value s row old.ended) Absent) ≡ found
       → Sound asked z past old
       → new_node.known ≡ old.known → old.scn ≤ new_node.scn → new_node.ended ≡ old.ended → new_node.own ≡ Some x
-      → new_node.pending ≡ record { row = row; value = new } ∷ old.pending
-      → map as_pending (changes_of (standing x past)) ≡ old.pending
+      → new_node.pending ≡ record { row = row; found = found; new = new } ∷ old.pending
+      → changes_of (standing x past) ≡ old.pending
       → ((k : ℕ) → wrap_at old.slots k ≤ wrap_at new_node.slots k)
       → (x.slot < 8) × (x.wrap ≤ wrap_at new_node.slots x.slot)
       → Sound asked z (Changed n x row found new ∷ past) new_node
@@ -156,8 +155,8 @@ module _ (asked : ℕ → Option Range) (z : ℕ) where
         ended = sound.ended ∙ sym ended;
         own_is = own-changed past n s x row found new start ∙ sym own_is;
         pending =
-            ap (map as_pending) (own_changes-changed past n s x row found new start)
-            ∙ (ap (λ (ps : List Pending). record { row = row; value = new } ∷ ps) stand ∙ sym pending);
+            own_changes-changed past n s x row found new start
+            ∙ (ap (λ (changes : List Change). record { row = row; found = found; new = new } ∷ changes) stand ∙ sym pending);
         fresh = λ y later. standing-other past n x y row found new now.slots used.1 later
             (sound.fresh y (let le = wraps y.slot in omega arith));
         own_used = rw own_is used;
@@ -179,10 +178,6 @@ module _ (asked : ℕ → Option Range) (z : ℕ) where
 
   pub own_changes-own : (past : Past) (x : Xid) → own z past ≡ Some x → own_changes z past ≡ changes_of (standing x past)
   own_changes-own past x is = ap (λ (o : Option Xid). option_map_or (λ y. changes_of (standing y past)) o []) is
-
-  map-map : (c : Scn) (changes : List Change) → map (λ change. version_at c (as_pending change)) changes ≡ map (version_at c) (map as_pending changes)
-  map-map c [] = refl
-  map-map c (change ∷ changes) = ap (λ (vs : List Version). version_at c (as_pending change) ∷ vs) (map-map c changes)
 
   -- a slot's wrap stays where only its end is written
   pub wrap_at-ended : (slots : List SlotUse) (k j : ℕ) (c : Scn) → k < length slots
@@ -215,11 +210,11 @@ module _ (asked : ℕ → Option Range) (z : ℕ) where
         clock = omega arith;
         starts = (let le = sound.starts in let le2 = sound.clock in omega arith);
         commits = rw history_is (omega arith, UpTo-le old.known now.known commits le_now sound.commits);
-        ended = rw history_is ((ap (λ (vs : List Version). vs ++ versions_of commits) (map-map c own_now)
-            ∙ (ap (λ (ps : List Pending). map (version_at c) ps ++ versions_of commits) stand ∙ ap (λ (vs : List Version). map (version_at c) old.pending ++ vs) sound.ended))
+        ended = rw history_is ((ap (λ (changes : List Change). map (version_at c) changes ++ versions_of commits) stand
+            ∙ ap (λ (vs : List Version). map (version_at c) old.pending ++ vs) sound.ended)
             ∙ sym ended);
         own_is = closed ∙ sym none;
-        pending = ap (λ (o : Option Xid). map as_pending (option_map_or (λ y. changes_of (standing y past)) o [])) closed ∙ sym pending;
+        pending = ap (λ (o : Option Xid). option_map_or (λ y. changes_of (standing y past)) o []) closed ∙ sym pending;
         fresh = λ y later. sound.fresh y (rw wraps at later);
         own_used = rw none tt;
         rows = (tt, (tt, (tt, subst (λ (h : List Commit). Each (RowsAreSeen asked h) past) (sym history_is) (EachRows-same asked old.known commits (a ∷ commits) same past sound.starts sound.rows))));
@@ -241,8 +236,8 @@ module _ (asked : ℕ → Option Range) (z : ℕ) where
       history_is : history (Acked n x c ∷ Committed x c i ∷ Marked n x c ∷ past) ≡ a ∷ commits
       history_is = history-committed past n x c i old.known sound.commits (let le = sound.clock in omega arith)
 
-      stand : map as_pending own_now ≡ old.pending
-      stand = ap (map as_pending) (sym (own_changes-own past x (sound.own_is ∙ own_is))) ∙ sound.pending
+      stand : own_now ≡ old.pending
+      stand = sym (own_changes-own past x (sound.own_is ∙ own_is)) ∙ sound.pending
 
       closed : own z (Acked n x c ∷ Committed x c i ∷ Marked n x c ∷ past) ≡ None
       closed = own-committed past n x c i (sound.own_is ∙ own_is)

@@ -15,11 +15,11 @@ use Rattle.journal.specs.Sees.{own, own_changes}
 use Rattle.journal.specs.Good.{Range}
 use Rattle.plain_node.specs.declared.node.Node.{Node}
 use Rattle.plain_node.specs.declared.slots.SlotUse.{SlotUse}
-use Rattle.plain_node.specs.declared.versions.Pending.{Pending}
+use Rattle.journal.specs.declared.deeds.Change.{Change}
 use Rattle.plain_node.specs.declared.versions.Version.{Version}
 use Rattle.plain_node.specs.Slots.{wrap_at, never, next_xid, IsLeastUsed}
 use Rattle.plain_node.specs.Steps.{told, opened, started, got, value_in, begun, changed, Puts, version_at, ended_by, commit_of, committed}
-use Rattle.plain_node.specs.Sound.{Sound, Proper, parts_of, as_pending}
+use Rattle.plain_node.specs.Sound.{Sound, Proper, parts_of}
 use Rattle.journal.specs.Stood.{stood, is_commit}
 use Rattle.journal.specs.Past.{Past}
 use Rattle.journal.specs.Standing.{is_open}
@@ -68,15 +68,15 @@ module _ (asked : ℕ → Option Range) where
   pub pending-none : (node : Node) → node.own ≡ None → IsSound asked node → [] ≡ reverse node.pending
   pending-none node none sound = rw (sound.own_is ∙ none) at sound.pending
 
-  pending-own : (node : Node) (x : Xid) → node.own ≡ Some x → IsSound asked node → map as_pending (changes_of (standing x node.journal)) ≡ reverse node.pending
+  pending-own : (node : Node) (x : Xid) → node.own ≡ Some x → IsSound asked node → changes_of (standing x node.journal) ≡ reverse node.pending
   pending-own node x is sound =
-      ap (map as_pending) (sym (own_changes-own asked 0 node.journal x (sound.own_is ∙ is))) ∙ sound.pending
+      sym (own_changes-own asked 0 node.journal x (sound.own_is ∙ is)) ∙ sound.pending
 
   -- a change by the transaction x, which is the own one by then
   change-told : (old mid : Node) (n : ℕ) (x : Xid) (row : RowNo) (value : Value)
       → IsSound asked (started old n 0)
       → mid.journal ≡ (started old n 0).journal → mid.scn ≡ old.scn → mid.known ≡ old.known → mid.ended ≡ old.ended → mid.pending ≡ old.pending → mid.own ≡ Some x
-      → map as_pending (changes_of (standing x (started old n 0).journal)) ≡ reverse old.pending
+      → changes_of (standing x (started old n 0).journal) ≡ reverse old.pending
       → ((k : ℕ) → wrap_at old.slots k ≤ wrap_at mid.slots k)
       → (x.slot < 8) × (x.wrap ≤ wrap_at mid.slots x.slot)
       → IsSound asked (changed mid n x row (value_in old old.known row) value)
@@ -85,7 +85,7 @@ module _ (asked : ℕ → Option Range) where
       (Sound-changed asked 0 (started old n 0).journal (parts_of (started old n 0)) (parts_of (changed mid n x row (value_in old old.known row) value))
       n old.known x row (value_in old old.known row) value (start-told old n) refl sound
       known (omega (arith, scn)) (ap reverse ended) own_is
-      (rw (pending, reverse_push old.pending (record { row = row; value = value })) refl) stand wraps used)
+      (rw (pending, reverse_push old.pending (record { row = row; found = value_in old old.known row; new = value })) refl) stand wraps used)
 
   -- the transaction of a put is the open one
   put-open : (old mid : Node) (n : ℕ) (x : Xid) (row : RowNo) (value : Value) (y : Xid) → old.own ≡ Some y → x ≡ y → mid ≡ started old n 0
@@ -119,7 +119,7 @@ module _ (asked : ℕ → Option Range) where
       by_own None is h = put-first old mid n x row value h.0 is eight h.1.within h.2 h.3 (IsSound-started old n sound)
       by_own (Some y) is h = put-open old mid n x row value y is h.0 h.1 (IsSound-started old n sound)
 
-  reverse_map : (c : Scn) (pending : List Pending) → reverse (map (version_at c) pending) ≡ map (version_at c) (reverse pending)
+  reverse_map : (c : Scn) (pending : List Change) → reverse (map (version_at c) pending) ≡ map (version_at c) (reverse pending)
   reverse_map c [] = refl
   reverse_map c (p ∷ pending) =
       reverse-append (version_at c p ∷ []) (map (version_at c) pending)

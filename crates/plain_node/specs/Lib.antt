@@ -10,4 +10,5 @@ pub mod Good
 pub mod Lost
 pub mod Engine
 pub mod RedoSize
+pub mod Beside
 pub mod Ran

@@ -12,16 +12,12 @@ use Rattle.journal.specs.History.{history}
 use Rattle.journal.specs.declared.deeds.Commit.{Commit}
 use Rattle.journal.specs.Past.{Past}
 use Rattle.journal.specs.declared.deeds.Change.{Change}
-use Rattle.plain_node.specs.declared.versions.Pending.{Pending}
 use Rattle.plain_node.specs.Slots.{wrap_at}
 use Rattle.plain_node.specs.Sound.{Parts}
 
--- a change without what it found, and a pending one, as a row and what it holds
+-- a change without what it found: the row, and what it holds
 abbrev pub pair_of : Change → RowNo × Value
 pair_of change = (change.row, change.new)
-
-abbrev pub pair_in : Pending → RowNo × Value
-pair_in change = (change.row, change.value)
 
 -- a commit of a journal's history as the redo logs tell it
 abbrev pub line_of_commit : Commit → HistoryLine
@@ -41,7 +37,7 @@ WaitsFor node r = (is_commit r.kind ≡ false) × (node.own ≡ Some r.xid)
 pub record Logged (durable waits : List Redo) (past : Past) (node : Parts) : Type 0 where
   pub each : AllByRecursion IsRedo (durable ++ waits)
   pub lines : lines_in (durable ++ waits) ≡ map line_of_commit (reverse (history past))
-  pub own : IfSome node.own (λ x. changes_in (durable ++ waits) x ≡ reverse (map pair_in node.pending))
+  pub own : IfSome node.own (λ x. changes_in (durable ++ waits) x ≡ reverse (map pair_of node.pending))
   pub unused : (x : Xid) → wrap_at node.slots x.slot < x.wrap → changes_in (durable ++ waits) x ≡ []
   pub waiting : AllByRecursion (WaitsFor node) waits
   pub nothing_back : AllByRecursion (λ r. is_step_back r.kind ≡ false) (durable ++ waits)

@@ -5,16 +5,14 @@ use Rattle.base_types.specs.declared.names.InstNo.{InstNo}
 use Rattle.journal.specs.Past.{Past, Each, home_of, is_up}
 use Rattle.journal.specs.Standing.{standing, is_open}
 use Rattle.journal.specs.declared.deeds.Change.{Change}
-use Rattle.journal.specs.Stood.{stood, is_commit, is_commit_by, acked_up_to, came_up}
-use Rattle.journal.specs.History.{history}
+use Rattle.journal.specs.Stood.{stood, is_commit, is_commit_by, acked_up_to, came_up, latest_start}
+use Rattle.journal.specs.History.{history, UpTo}
 use Rattle.journal.specs.declared.deeds.Commit.{Commit}
 use Rattle.journal.specs.Sees.{own, own_changes}
 use Rattle.journal.specs.Good.{Range, RowsAreSeen, FoundIsSeen, CommitIsProper}
 use Rattle.journal.specs.Good.{AckIsProper, StartIsProper, RowIsFree, changes_in, Replays}
-use Rattle.journal.proofs.HistoryLemmas.{UpTo, latest_start}
 use Rattle.plain_node.specs.declared.node.Node.{Node}
 use Rattle.plain_node.specs.declared.slots.SlotUse.{SlotUse}
-use Rattle.plain_node.specs.declared.versions.Pending.{Pending}
 use Rattle.plain_node.specs.declared.versions.Version.{Version}
 use Rattle.plain_node.specs.Ends.{causes_in, ends_in}
 use Rattle.plain_node.specs.Slots.{wrap_at}
@@ -27,7 +25,7 @@ pub record Parts : Type 0 where
   pub slots : List SlotUse
   pub home : Option InstNo
   pub own : Option Xid
-  pub pending : List Pending
+  pub pending : List Change
   pub ended : List Version
 
 abbrev pub parts_of : Node → Parts
@@ -42,15 +40,11 @@ parts_of node =
       ended = reverse node.ended;
     }
 
--- a change of the journal as a pending one of the node
-abbrev pub as_pending : Change → Pending
-as_pending change = record { row = change.row; value = change.new }
-
 -- the versions that commits made, the newest first
 abbrev pub versions_of : List Commit → List Version
 versions_of [] = []
 versions_of (commit ∷ older) =
-    map (λ change. version_at commit.commit_scn (as_pending change)) commit.changes ++ versions_of older
+    map (version_at commit.commit_scn) commit.changes ++ versions_of older
 
 -- the state of session z's node after these entries
 pub record Sound (asked : ℕ → Option Range) (z : ℕ) (past : Past) (node : Parts) : Type 0 where
@@ -59,7 +53,7 @@ pub record Sound (asked : ℕ → Option Range) (z : ℕ) (past : Past) (node : 
   pub commits : UpTo node.known (history past)
   pub ended : versions_of (history past) ≡ node.ended
   pub own_is : own z past ≡ node.own
-  pub pending : map as_pending (own_changes z past) ≡ node.pending
+  pub pending : own_changes z past ≡ node.pending
   pub fresh : (x : Xid) → wrap_at node.slots x.slot < x.wrap → standing x past ≡ []
   pub own_used : IfSome node.own (λ x. (x.slot < 8) × (x.wrap ≤ wrap_at node.slots x.slot))
   pub rows : Each (RowsAreSeen asked (history past)) past

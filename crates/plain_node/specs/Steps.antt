@@ -7,12 +7,12 @@ use Rattle.base_types.specs.declared.names.Xid.{Xid}
 use Rattle.base_types.specs.declared.names.InstNo.{InstNo}
 use Rattle.base_types.specs.declared.value.Value.{Value}
 use Rattle.base_types.specs.declared.value.Value.TheVariants.{Absent}
+use Rattle.journal.specs.declared.deeds.Change.{Change}
 use Rattle.journal.specs.declared.entry.Entry.{Entry}
 use Rattle.journal.specs.declared.entry.Entry.TheVariants.{Opened, Started, Rows, Changed}
 use Rattle.journal.specs.declared.entry.Entry.TheVariants.{Marked, Committed, Acked, Plain}
 use Rattle.journal.specs.Good.{listed}
 use Rattle.plain_node.specs.declared.node.Node.{Node}
-use Rattle.plain_node.specs.declared.versions.Pending.{Pending}
 use Rattle.plain_node.specs.declared.versions.Version.{Version}
 use Rattle.plain_node.specs.Versions.{pending_value, ended_value}
 use Rattle.plain_node.specs.Slots.{never, wrap_at, IsLeastUsed, next_xid}
@@ -61,7 +61,7 @@ changed node n x row found new =
     record node {
       scn = node.scn + 1;
       journal = Changed n x row found new ∷ node.journal;
-      pending = node.pending ++ record { row = row; value = new } ∷ [];
+      pending = node.pending ++ record { row = row; found = found; new = new } ∷ [];
     }
 
 -- a put was answered
@@ -71,8 +71,8 @@ Puts old n z row value new =
     × (new ≡ changed mid n x row (value_in old old.known row) value)
 
 -- a pending change as a version that ended at c
-abbrev pub version_at : Scn → Pending → Version
-version_at c change = record { row = change.row; value = change.value; c = c }
+abbrev pub version_at : Scn → Change → Version
+version_at c change = record { row = change.row; value = change.new; c = c }
 
 -- the commit at the newest SCN was answered
 abbrev pub finished : Node → ℕ → Xid → Node

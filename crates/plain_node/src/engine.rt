@@ -3,6 +3,7 @@ ghost use Rattle.rac_disk.specs.State.{HadFault, IsCalm, WhereTold};
 ghost use Rattle.redo_record.specs.Redo.{IsRedo, IsXid, length_of, redo_bytes};
 ghost use Rattle.redo_thread.specs.Thread.{ThreadState, appended, end_of, forced};
 ghost use Rattle.journal.specs.Good.{Range};
+ghost use Rattle.plain_node.specs.Beside.{LeavesBeside};
 ghost use Rattle.plain_node.specs.Engine.{Ends, EndsCut, IsCutEnd, EntersIfWhole, FailsToForce, HasCause, IsCutCommit, IsKept, IsOneFault, LogsTell, MadeRoom};
 ghost use Rattle.plain_node.specs.RedoSize.{IsMeasured, redo_size};
 ghost use Rattle.plain_node.specs.Runs.{Fits, IsProper, IsSound};
@@ -71,6 +72,7 @@ impl Engine {
         ensures made { OnOk result (MadeRoom (D.state disk.old).told self.old.thread (D.state disk.new).told self.new.thread) }
         ensures calm { OnOk result (IsCalm (D.state disk.old) (D.state disk.new)) }
         ensures failed { OnErr result (FailsToForce (D.state disk.old) self.old.thread (D.state disk.new)) }
+        ensures beside { LeavesBeside (D.state disk.old).told (D.state disk.new).told }
     {
         if BUFFER - self.thread.waiting().len() < LARGEST {
             self.thread.force(disk)?;
@@ -133,6 +135,7 @@ impl Engine {
         ensures measured { OnOk result ((room : ℕ) → IsMeasured room (D.state disk.old).told self.old → IsMeasured room (D.state disk.new).told self.new) }
         ensures full { IsErrOf result Stop.Fault → (room : ℕ) → IsMeasured room (D.state disk.old).told self.old → redo_size self.new.node.journal ≤ room →
             (D.state disk.new).full ≡ (D.state disk.old).full }
+        ensures beside { LeavesBeside (D.state disk.old).told (D.state disk.new).told }
     {
         let s = self.node.start(stmt, session)?;
         if let Err(Failed) = self.make_room(disk) {
@@ -171,6 +174,7 @@ impl Engine {
         ensures measured { OnOk result ((room : ℕ) → IsMeasured room (D.state disk.old).told self.old → IsMeasured room (D.state disk.new).told self.new) }
         ensures full { IsErrOf result Stop.Fault → (room : ℕ) → IsMeasured room (D.state disk.old).told self.old → redo_size self.new.node.journal ≤ room →
             (D.state disk.new).full ≡ (D.state disk.old).full }
+        ensures beside { LeavesBeside (D.state disk.old).told (D.state disk.new).told }
     {
         let _s = self.node.start(stmt, session)?;
         match self.node.own {
@@ -199,6 +203,7 @@ impl Engine {
         ensures cause { IsErrOf result Stop.Fault → HasCause (D.state disk.old) (D.state disk.new) }
         ensures full { IsErrOf result Stop.Fault → (room : ℕ) → IsMeasured room (D.state disk.old).told self.old → redo_size self.new.node.journal ≤ room →
             (D.state disk.new).full ≡ (D.state disk.old).full }
+        ensures beside { LeavesBeside (D.state disk.old).told (D.state disk.new).told }
     {
         if let Err(Failed) = self.make_room(disk) {
             return Err(Stop::Fault);
@@ -226,6 +231,7 @@ impl Engine {
             (IsCalm (D.state disk.old) (D.state disk.new) × ((D.state disk.new).faults < 2 ^ 64 - 1))) }
         ensures either { OnOk result ((self.new.node ≡ self.old.node) ⊎ (self.new.node ≡ entered self.old.node xid.now)) }
         ensures counts { IsCalm (D.state disk.old) (D.state disk.new) ⊎ HadFault (D.state disk.old) (D.state disk.new) }
+        ensures beside { LeavesBeside (D.state disk.old).told (D.state disk.new).told }
     {
         let Ok(len) = disk.log_len(InstNo(0)) else {
             return Ok(());

@@ -10,9 +10,9 @@ ghost use Rattle.plain_node.specs.Slots.{wrap_at, IsLeastUsed, next_xid};
 ghost use Rattle.plain_node.specs.Steps.{value_in, told, opened, started, got, begun, changed, IsOwn, version_at, finished};
 
 use crate::slots::{SlotUse, least_used};
-use crate::versions::{Pending, Version, newest_ended, newest_pending};
+use crate::versions::{Version, newest_ended, newest_pending};
 use base_types::{InstNo, NoMemory, RowNo, Scn, Sequence, Value, Xid};
-use journal::{Cause, Entry, Journal, RowList};
+use journal::{Cause, Change, Entry, Journal, RowList};
 use std::alloc::Global;
 
 /// The one instance, what its one session has open, and the journal so far.
@@ -28,7 +28,7 @@ pub struct Node {
     /// The open transaction.
     pub own: Option<Xid>,
     /// Its changes.
-    pub pending: Sequence<Pending>,
+    pub pending: Sequence<Change>,
     pub ended: Sequence<Version>,
     pub journal: Journal,
 }
@@ -156,7 +156,7 @@ impl Node {
             found,
             new,
         })?;
-        self.pending.push(Pending { row, value: new })?;
+        self.pending.push(Change { row, found, new })?;
         Ok((*xid, found))
     }
 
@@ -231,7 +231,7 @@ impl Node {
 /// Adds what was pending to the versions, as ended at `c`.
 fn append_versions(
     ended: &mut Sequence<Version>,
-    pending: &[Pending],
+    pending: &[Change],
     c: Scn,
 ) -> Result<(), NoMemory>
     ensures { OnOk result (ended.new ≡ ended.old ++ map (version_at c) pending.now) }
@@ -239,7 +239,7 @@ fn append_versions(
     for change in pending {
         ended.push(Version {
             row: change.row,
-            value: change.value,
+            value: change.new,
             c,
         })?;
     }

@@ -9,6 +9,7 @@ ghost use Rattle.script_text.specs.OneSession.{is_for_one_session};
 ghost use Rattle.std.specs.List.{list_all};
 ghost use Rattle.script_text.specs.Asked.{range_asked, asked};
 ghost use Rattle.plain_node.specs.Lined.{IsLined, IsNext, AreNext, IsRight, NamesBelow, last_line};
+ghost use Rattle.plain_node.specs.Beside.{KeepsAllButLogs, LeavesBeside};
 ghost use Rattle.plain_node.specs.Engine.{CanGo, HasCause, IsCutLine, IsKept, IsOneFault, LogsTell};
 ghost use Rattle.plain_node.specs.Lost.{IsLostSoFar};
 ghost use Rattle.plain_node.specs.Ran.{IsRan};
@@ -58,6 +59,7 @@ fn try_answer<D: SharedDisk>(
     ensures measured { OnOk result ((room : ℕ) → IsMeasured room (D.state disk.old).told engine.old → IsMeasured room (D.state disk.new).told engine.new) }
     ensures full { IsErrOf result Stop.Fault → (room : ℕ) → IsMeasured room (D.state disk.old).told engine.old → redo_size engine.new.node.journal ≤ room →
         (D.state disk.new).full ≡ (D.state disk.old).full }
+    ensures beside { LeavesBeside (D.state disk.old).told (D.state disk.new).told }
 {
     match item {
         Item::Session { session, inst } => engine.open(*session, *inst),
@@ -96,6 +98,7 @@ fn answer<D: SharedDisk>(
     ensures measured { OnOk result ((room : ℕ) → IsMeasured room (D.state disk.old).told engine.old → IsMeasured room (D.state disk.new).told engine.new) }
     ensures full { IsErrOf result Stop.Fault → (room : ℕ) → IsMeasured room (D.state disk.old).told engine.old → redo_size engine.new.node.journal ≤ room →
         (D.state disk.new).full ≡ (D.state disk.old).full }
+    ensures beside { LeavesBeside (D.state disk.old).told (D.state disk.new).told }
 {
     match try_answer(engine, alloc, disk, line, item) {
         Ok(()) => Ok(()),
@@ -128,6 +131,7 @@ fn run_wave<D: SharedDisk>(
     ensures measured { OnOk result ((room : ℕ) → IsMeasured room (D.state disk.old).told engine.old → IsMeasured room (D.state disk.new).told engine.new) }
     ensures full { IsErrOf result Stop.Fault → (room : ℕ) → IsMeasured room (D.state disk.old).told engine.old → redo_size engine.new.node.journal ≤ room →
         (D.state disk.new).full ≡ (D.state disk.old).full }
+    ensures beside { LeavesBeside (D.state disk.old).told (D.state disk.new).told }
 {
     for line in wave.as_slice() {
         answer(engine, alloc, disk, line.0, &line.1)?;
@@ -154,6 +158,7 @@ fn run_waves<D: SharedDisk>(
     ensures cause { IsErrOf result Stop.Fault → HasCause (D.state disk.old) (D.state disk.new) }
     ensures full { IsErrOf result Stop.Fault → (room : ℕ) → IsMeasured room (D.state disk.old).told engine.old → redo_size engine.new.node.journal ≤ room →
         (D.state disk.new).full ≡ (D.state disk.old).full }
+    ensures beside { LeavesBeside (D.state disk.old).told (D.state disk.new).told }
 {
     for wave in waves.as_slice() {
         if let Err(why) = run_wave(engine, alloc, disk, wave) {
@@ -174,7 +179,9 @@ pub fn run_script<D: SharedDisk>(
 ) -> Result<Ran, NoMemory>
     requires well_formed { IsWellFormed script.now }
     requires one_session { list_all (λ line. is_for_one_session line.1) (items_of script.now) ≡ true }
-    ensures { IfOk result (IsRan script.now (D.state disk.old) (D.state disk.new)) }
+    ensures ran { IfOk result (IsRan script.now (D.state disk.old) (D.state disk.new)) }
+    // Also where memory ran out.
+    ensures kept { KeepsAllButLogs (D.state disk.old).told (D.state disk.new).told }
 {
     let mut engine = Engine::new(alloc)?;
     match run_waves(&mut engine, alloc, disk, script.waves()) {

@@ -3,13 +3,7 @@ ghost use Rattle.std.specs.Option.{option_map};
 ghost use Rattle.plain_node.specs.Versions.{pending_value, ended_value};
 
 use base_types::{RowNo, Scn, Value};
-
-/// What a row got by a change of a transaction that is open.
-#[derive(Clone, Copy, Debug, PartialEq, Eq)]
-pub struct Pending {
-    pub row: RowNo,
-    pub value: Value,
-}
+use journal::Change;
 
 /// What a row got by a change of a transaction that committed at `c`.
 #[derive(Clone, Copy, Debug, PartialEq, Eq)]
@@ -20,14 +14,14 @@ pub struct Version {
 }
 
 /// What the newest of the pending changes put into a row.
-pub fn newest_pending(pending: &[Pending], row: RowNo) -> Option<Value>
+pub fn newest_pending(pending: &[Change], row: RowNo) -> Option<Value>
     ensures { result ≡ pending_value row (reverse pending.now) }
 {
     pending
         .iter()
         .rev()
         .find(|change| change.row.get() == row.get())
-        .map(|change| change.value)
+        .map(|change| change.new)
 }
 
 /// What the newest of the versions that ended at `s` or before put into a row.

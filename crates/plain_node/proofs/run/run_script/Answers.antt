@@ -9,6 +9,7 @@ use Rattle.plain_node.specs.Lined.{AreNext}
 use Rattle.plain_node.specs.Ran.{HasEmptyLogs}
 use Rattle.plain_node.specs.RedoSize.{redo_size}
 use Rattle.script_text.specs.Asked.{asked}
+use Rattle.plain_node.proofs.BesideLemmas.{all-but-logs}
 use Rattle.plain_node.proofs.EngineLemmas.{kept-new, kept-tells}
 use Rattle.plain_node.proofs.LineLemmas.{plain-script, all-next}
 use Rattle.plain_node.proofs.RedoSizeLemmas.{if-some, measured-new}
@@ -23,8 +24,8 @@ run_waves-requires g c =
       small = rw c.in_ok-engine.ensures.thread (omega arith);
     })
 
-pub returns-in-Ok : goal.returns-in-Ok
-returns-in-Ok g c =
+pub returns-in-Ok-clause-ran : goal.returns-in-Ok-clause-ran
+returns-in-Ok-clause-ran g c =
     let parts = c.args.script.now in
     let new = c.in_ok-engine.ensures in
     let disk = (g.D.SharedDisk.state c.args.disk.now).told in
@@ -46,8 +47,8 @@ returns-in-Ok g c =
           (λ it is empty few. c.in-Ok.ensures.calm.full);
     }
 
-pub returns-in-Err-Fault : goal.returns-in-Err-Fault
-returns-in-Err-Fault g c =
+pub returns-in-Err-Fault-clause-ran : goal.returns-in-Err-Fault-clause-ran
+returns-in-Err-Fault-clause-ran g c =
     let parts = c.args.script.now in
     let new = c.in_ok-engine.ensures in
     let disk = (g.D.SharedDisk.state c.args.disk.now).told in
@@ -68,3 +69,12 @@ returns-in-Err-Fault g c =
           → (g.D.SharedDisk.state c.run_waves.new.disk).full ≡ (g.D.SharedDisk.state c.args.disk.now).full)
           (λ it is empty few. c.run_waves.ensures.full fault (room_at it 0) (rw is (measured-new it c.in_ok-engine.engine new.thread new.journal empty)) few);
     }
+
+pub returns-in-Ok-clause-kept : goal.returns-in-Ok-clause-kept
+returns-in-Ok-clause-kept g c = all-but-logs _ _ c.in-Ok.ensures.beside
+
+pub returns-in-Err-Fault-clause-kept : goal.returns-in-Err-Fault-clause-kept
+returns-in-Err-Fault-clause-kept g c = all-but-logs _ _ c.in-Err-Fault.ensures.beside
+
+pub returns-in-Err-NoMemory-clause-kept : goal.returns-in-Err-NoMemory-clause-kept
+returns-in-Err-NoMemory-clause-kept g c = all-but-logs _ _ c.in-Err-NoMemory.ensures.beside

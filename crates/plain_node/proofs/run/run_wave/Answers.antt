@@ -34,6 +34,7 @@ loop-line-preserved g c =
           );
       measured = λ room has. c.in_ok-answer.ensures.measured room (c.loop-line.invariant.measured room has);
       calm = record { faults = c.in_ok-answer.ensures.calm.faults ∙ c.loop-line.invariant.calm.faults; full = c.in_ok-answer.ensures.calm.full ∙ c.loop-line.invariant.calm.full };
+      beside = λ blocks controls tells. c.in_ok-answer.ensures.beside blocks controls (c.loop-line.invariant.beside blocks controls tells);
     }
 
 pub returns-clause-runs : goal.returns-clause-runs

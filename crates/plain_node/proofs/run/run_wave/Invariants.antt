@@ -2,6 +2,7 @@ use Rattle.std.proofs.Common.{◌≡◌, ℕ, List, ◌++◌, drop}
 use Rattle.script_text.specs.declared.item.Item.{Item}
 use Rattle.script_text.specs.ScriptParts.{ScriptParts}
 use Rattle.rac_disk.specs.State.{IsCalm}
+use Rattle.plain_node.specs.Beside.{LeavesBeside}
 use Rattle.plain_node.specs.Engine.{CanGo, IsKept}
 use Rattle.plain_node.specs.Lined.{AreNext, IsRight}
 use Rattle.plain_node.specs.RedoSize.{IsMeasured}
@@ -18,4 +19,5 @@ invariant-loop-line g l =
           × (IsKept (state l.fn.disk).told l.fn.engine → IsKept (state l.disk).told l.engine);
       measured : (room : ℕ) → IsMeasured room (state l.fn.disk).told l.fn.engine → IsMeasured room (state l.disk).told l.engine;
       calm : IsCalm (state l.fn.disk) (state l.disk);
+      beside : LeavesBeside (state l.fn.disk).told (state l.disk).told;
     }

@@ -34,6 +34,7 @@ loop-wave-preserved g c =
           );
       measured = λ room has. c.in_default.ensures.measured room (c.loop-wave.invariant.measured room has);
       calm = record { faults = c.in_default.ensures.calm.faults ∙ c.loop-wave.invariant.calm.faults; full = c.in_default.ensures.calm.full ∙ c.loop-wave.invariant.calm.full };
+      beside = λ blocks controls tells. c.in_default.ensures.beside blocks controls (c.loop-wave.invariant.beside blocks controls tells);
     }
 
 pub returns-clause-went : goal.returns-clause-went

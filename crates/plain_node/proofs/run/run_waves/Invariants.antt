@@ -3,6 +3,7 @@ use Rattle.script_text.specs.declared.item.Item.{Item}
 use Rattle.script_text.specs.ScriptParts.{ScriptParts}
 use Rattle.script_text.specs.Reading.{joined}
 use Rattle.rac_disk.specs.State.{IsCalm}
+use Rattle.plain_node.specs.Beside.{LeavesBeside}
 use Rattle.plain_node.specs.Engine.{CanGo, IsKept}
 use Rattle.plain_node.specs.Lined.{AreNext, IsRight}
 use Rattle.plain_node.specs.RedoSize.{IsMeasured}
@@ -19,4 +20,5 @@ invariant-loop-wave g l =
           × (IsKept (state l.fn.disk).told l.fn.engine → IsKept (state l.disk).told l.engine);
       measured : (room : ℕ) → IsMeasured room (state l.fn.disk).told l.fn.engine → IsMeasured room (state l.disk).told l.engine;
       calm : IsCalm (state l.fn.disk) (state l.disk);
+      beside : LeavesBeside (state l.fn.disk).told (state l.disk).told;
     }
