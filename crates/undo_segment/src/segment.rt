@@ -1,6 +1,6 @@
 ghost use Rattle.std.specs.Prelude.{◌≡◌, ◌<◌, ◌≤◌, ◌/◌, option_copied};
 ghost use Rattle.base_types.specs.Layout.{segment_blocks, undo_block_of};
-ghost use Rattle.undo_segment.specs.Begin.{active_count, next_xid, room};
+ghost use Rattle.undo_segment.specs.Begin.{active_count, began_first, ended_first, next_xid, oldest, room};
 ghost use Rattle.undo_segment.specs.Segment.{IsSegment, fetch, fetch_own, header_for, look, own_block_for, ring_block, undo_block_for};
 
 use crate::fetch::{Fetch, fetch_in};
@@ -122,4 +122,95 @@ impl Segment {
     {
         1 + self.layout.undo / 4
     }
+
+    /// The name of the next transaction: `None` exactly where all eight slots are active. It takes the slot that isn't
+    /// active and has the least end, 0 where it was never used, and of several the lowest. Its wrap is one above the
+    /// slot's, and no more than the last `u32`.
+    pub fn begin(&self) -> Option<Xid>
+        ensures { result ≡ next_xid self.now }
+    {
+        let slots = self.slots();
+        let slot = slots.iter().position(|slot| ended_first(&slots, slot))?;
+        Some(Xid {
+            seg: self.head.seg(),
+            slot: slot as u8,
+            wrap: slots[slot].wrap.saturating_add(1),
+        })
+    }
+
+    /// The sequence number of the next undo record. An `Err` comes exactly where the undo records from the first one of
+    /// the open transactions on fill the ring.
+    pub fn room(&self) -> Result<u64, UndoFull>
+        ensures { result ≡ room self.now }
+    {
+        let next = self.head.next();
+        match oldest(&self.slots()) {
+            Some(slot) if next.saturating_sub(slot.first) >= u64::from(self.layout.undo) => {
+                Err(UndoFull {
+                    first: slot.first,
+                    next,
+                })
+            }
+            _ => Ok(next),
+        }
+    }
+
+    /// How many slots are active.
+    pub fn active(&self) -> u8
+        ensures count { result ≡ active_count self.now }
+        ensures few { result ≤ 8 }
+    {
+        self.slots()
+            .iter()
+            .filter(|slot| is_active(slot.state))
+            .count() as u8
+    }
+
+    // The slots of the transaction table.
+    fn slots(&self) -> [TxnSlot; 8]
+        ensures { result ≡ self.now.head.slots }
+    {
+        let head = &self.head;
+        head.always_is_header();
+        [
+            head.slot(0),
+            head.slot(1),
+            head.slot(2),
+            head.slot(3),
+            head.slot(4),
+            head.slot(5),
+            head.slot(6),
+            head.slot(7),
+        ]
+    }
+}
+
+// Whether the slot is free, and no free slot ended before it.
+fn ended_first(slots: &[TxnSlot], slot: &TxnSlot) -> bool
+    ensures { result ≡ ended_first slots.now slot.now }
+{
+    !is_active(slot.state)
+        && slots
+            .iter()
+            .all(|other| is_active(other.state) || slot.scn.get() <= other.scn.get())
+}
+
+// The active slot with the earliest first undo record.
+fn oldest(slots: &[TxnSlot]) -> Option<TxnSlot>
+    ensures { result ≡ oldest slots.now }
+{
+    slots
+        .iter()
+        .find(|slot| began_first(slots, slot))
+        .copied()
+}
+
+// Whether the slot is active, and no active slot has an earlier first undo record.
+fn began_first(slots: &[TxnSlot], slot: &TxnSlot) -> bool
+    ensures { result ≡ began_first slots.now slot.now }
+{
+    is_active(slot.state)
+        && slots
+            .iter()
+            .all(|other| !is_active(other.state) || slot.first <= other.first)
 }
