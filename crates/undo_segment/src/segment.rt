@@ -10,6 +10,7 @@ ghost use Rattle.undo_segment.specs.Segment.{IsSegment, fetch, fetch_own, header
 use crate::fetch::{Fetch, fetch_in};
 use crate::handed::Handed;
 use crate::look::{Look, is_active, look_in};
+use crate::table::slots_of;
 use base_types::{BlockNo, InstNo, Layout, RedoAt, Scn, Xid};
 use redo_types::{HeadChange, Redo, UndoChange};
 use std::marker::Model;
@@ -134,7 +135,7 @@ impl Segment {
     pub fn begin(&self) -> Option<Xid>
         ensures { result ≡ next_xid self.now }
     {
-        let slots = self.slots();
+        let slots = slots_of(&self.head);
         let slot = next_slot(&slots)?;
         Some(Xid {
             seg: self.head.seg(),
@@ -149,7 +150,7 @@ impl Segment {
         ensures { result ≡ room self.now }
     {
         let next = self.head.next();
-        match oldest(&self.slots()) {
+        match oldest(&slots_of(&self.head)) {
             Some(slot) if next.saturating_sub(slot.first) >= u64::from(self.layout.undo) => {
                 Err(UndoFull {
                     first: slot.first,
@@ -165,7 +166,7 @@ impl Segment {
         ensures count { result ≡ active_count self.now }
         ensures few { result ≤ 8 }
     {
-        self.slots()
+        slots_of(&self.head)
             .iter()
             .filter(|slot| is_active(slot.state))
             .count() as u8
@@ -258,24 +259,6 @@ impl Segment {
         } else {
             self.blocks[usize::from(k) - 1].write(out);
         }
-    }
-
-    // The slots of the transaction table.
-    fn slots(&self) -> [TxnSlot; 8]
-        ensures { result ≡ self.now.head.slots }
-    {
-        let head = &self.head;
-        head.always_is_header();
-        [
-            head.slot(0),
-            head.slot(1),
-            head.slot(2),
-            head.slot(3),
-            head.slot(4),
-            head.slot(5),
-            head.slot(6),
-            head.slot(7),
-        ]
     }
 }
 
