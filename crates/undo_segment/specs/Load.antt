@@ -50,10 +50,13 @@ pub record IsGoodUndo (number seg : ℕ) (bytes : List ℕ) (undo : UndoContent)
 abbrev pub IsBadHead : ℕ → ℕ → ℕ → Content → Type 0
 IsBadHead number seg block it = (block ≡ number) × ((head : HeaderContent) → IsGoodHead number seg (block_at it block) head → ⊥)
 
+-- The undo block with this number isn't one without fault.
+abbrev pub IsBadOne : ℕ → ℕ → ℕ → Content → Type 0
+IsBadOne number seg block it = (block ≡ number) × ((undo : UndoContent) → IsGoodUndo number seg (block_at it block) undo → ⊥)
+
 -- One of so many undo blocks behind a header isn't one without fault.
 abbrev pub IsBadUndo : ℕ → ℕ → ℕ → ℕ → Content → Type 0
-IsBadUndo head seg count block it =
-    (head < block) × (block ≤ head + count) × ((undo : UndoContent) → IsGoodUndo block seg (block_at it block) undo → ⊥)
+IsBadUndo head seg count block it = (head < block) × (block ≤ head + count) × IsBadOne block seg block it
 
 -- A block of an instance's segment isn't what it is to be.
 abbrev pub IsBadBlock : Layout → ℕ → ℕ → Content → Type 0

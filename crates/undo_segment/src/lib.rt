@@ -6,6 +6,7 @@ mod error;
 mod faults;
 mod fetch;
 mod handed;
+mod load;
 mod look;
 mod segment;
 mod table;

@@ -1,20 +1,21 @@
-ghost use Rattle.std.specs.Prelude.{◌≡◌, ◌<◌, ◌≤◌, ◌-◌, ◌/◌, ◌^◌, fold, option_copied, IfSome};
+ghost use Rattle.std.specs.Prelude.{◌≡◌, ◌<◌, ◌≤◌, ◌-◌, ◌/◌, ◌^◌, fold, option_copied, IfOk, IfSome};
 ghost use Rattle.base_types.specs.Layout.{segment_blocks, undo_block_of};
 ghost use Rattle.std.specs.List.{list_all, position};
 ghost use Rattle.redo_record.specs.Redo.{IsHeadChange, IsRedo, IsUndoChange};
 ghost use Rattle.undo_segment.specs.Apply.{applied, dirtied, head_applied, ring_place, undo_applied, version_of};
 ghost use Rattle.undo_segment.specs.Dirty.{bytes_of, cleaned, earlier, first_dirty, is_dirty};
 ghost use Rattle.undo_segment.specs.Begin.{active_count, began_first, began_no_later, ended_first, ended_no_later, next_xid, oldest, room};
+ghost use Rattle.undo_segment.specs.New.{clean_segment};
 ghost use Rattle.undo_segment.specs.Segment.{IsSegment, fetch, fetch_own, header_for, look, own_block_for, ring_block, undo_block_for};
 
 use crate::fetch::{Fetch, fetch_in};
 use crate::handed::Handed;
 use crate::look::{Look, is_active, look_in};
 use crate::table::slots_of;
-use base_types::{BlockNo, InstNo, Layout, RedoAt, Scn, Xid};
+use base_types::{BlockNo, InstNo, Layout, NoMemory, RedoAt, Scn, Xid};
 use redo_types::{HeadChange, Redo, UndoChange};
+use std::alloc::Global;
 use std::marker::Model;
-use thiserror::Error;
 use undo_image::{TxnSlot, UndoBlock, UndoHeader};
 
 /// A segment has no room for an undo record: that with the number `next` would take the place of one from `first` on,
@@ -37,7 +38,8 @@ pub struct Segment {
 }
 
 impl Model for Segment {
-    ghost use Rattle.undo_segment.specs.Segment.{IsSegment, SegmentState};
+    ghost use Rattle.undo_segment.specs.New.{clean_segment};
+ghost use Rattle.undo_segment.specs.Segment.{IsSegment, SegmentState};
 
     ghost Value = { SegmentState };
 
@@ -47,6 +49,25 @@ impl Model for Segment {
 }
 
 impl Segment {
+    // A segment of these blocks, all clean.
+    pub(crate) fn clean(
+        alloc: Global,
+        layout: &Layout,
+        head: UndoHeader,
+        blocks: Vec<UndoBlock>,
+    ) -> Result<Segment, NoMemory>
+        requires { IsSegment (clean_segment layout.now head blocks.items) }
+        ensures { IfOk result (λ it. it ≡ clean_segment layout.now head blocks.items) }
+    {
+        let since = vec![in alloc; None; 1 + blocks.len()]?;
+        Ok(Segment {
+            layout: *layout,
+            head,
+            blocks,
+            since,
+        })
+    }
+
     /// A law: a segment always is one.
     pub fn always_is_segment(&self)
         ensures { IsSegment self.now }
