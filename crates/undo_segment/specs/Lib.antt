@@ -1,0 +1,10 @@
+pub mod Look
+pub mod Fetch
+pub mod Segment
+pub mod Handed
+pub mod Begin
+pub mod Apply
+pub mod Dirty
+pub mod New
+pub mod Faults
+pub mod Load
