@@ -4,4 +4,7 @@ pub mod Segment
 pub mod Handed
 pub mod Begin
 pub mod Apply
+pub mod Dirty
+pub mod New
+pub mod Faults
 pub mod Load
