@@ -4,6 +4,8 @@
 mod choice;
 mod lock;
 mod slots;
+#[cfg(test)]
+mod tests;
 mod wanted;
 
 pub use choice::{SlotAnswer, choose_slot};
