@@ -24,7 +24,9 @@ pub fn decide_end(xid: &Xid, end: EndKind, segment: &Segment, clock: &Clock) -> 
     ensures decided { result ≡ end_decision xid.now end segment.now clock.now }
     ensures is_redo { IfSome result IsRedo }
 {
+    segment.always_is_segment();
     let head = segment.header();
+    head.always_is_header();
     if may_end(xid, end, head, clock) {
         Some(end_record(xid, end, head, Scn(clock.scn.get() + 1)))
     } else {
@@ -51,6 +53,7 @@ fn allows_end(end: EndKind, slot: &TxnSlot) -> bool
     }
 }
 
+#[tactic(auto, unfolding(crate::specs::End::end_record))]
 fn end_record(xid: &Xid, end: EndKind, head: &UndoHeader, scn: Scn) -> Redo
     requires slot { xid.now.slot < 8 }
     requires version { head.now.front.version < 2 ^ 63 }
@@ -69,6 +72,7 @@ fn end_record(xid: &Xid, end: EndKind, head: &UndoHeader, scn: Scn) -> Redo
 }
 
 // The slot of a transaction that ended at this SCN.
+#[tactic(auto, unfolding(crate::specs::End::ended_slot))]
 fn ended_slot(slot: &TxnSlot, end: EndKind, scn: Scn) -> TxnSlot
     ensures { result ≡ ended_slot slot.now end scn }
 {
@@ -101,6 +105,7 @@ fn kind_of_end(end: EndKind) -> RedoKind
 }
 
 /// What a record does to a header: it has one version more, this next sequence number, and this slot.
+#[tactic(auto, unfolding(crate::specs::End::head_change))]
 pub(crate) fn head_change(head: &UndoHeader, slot: u8, next: u64, to: TxnSlot) -> HeadChange
     requires { head.now.front.version < 2 ^ 63 }
     ensures { result ≡ head_change head.now slot next to }

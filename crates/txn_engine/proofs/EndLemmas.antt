@@ -1,0 +1,74 @@
+-- The record of an end is a redo record.
+use Rattle.std.proofs.Common.{◌≡◌, ℕ, ◌+◌, ◌^◌, ◌<◌, ◌≤◌, true, refl, sym, arith}
+use Rattle.base_types.specs.declared.names.Xid.{Xid}
+use Rattle.redo_types.specs.declared.undo.TxnSlot.{TxnSlot}
+use Rattle.part_image.specs.Undo.{IsTxnSlot}
+use Rattle.redo_record.specs.Redo.{HasChanges, IsHeadChange, IsRedo, IsXid, NamesUndo}
+use Rattle.undo_image.specs.Header.{HeaderContent, IsHeader, slot_at}
+use Rattle.scn_clock.specs.declared.clock.Clock.{Clock}
+use Rattle.journal.proofs.XidLemmas.{both_true}
+use Rattle.txn_engine.specs.declared.end.EndKind.{EndKind}
+use Rattle.txn_engine.specs.declared.end.EndKind.TheVariants.{Commit, RollbackEnd}
+use Rattle.txn_engine.specs.End.{end_record, ended_slot, head_change, kind_of_end, may_end, state_after}
+use Rattle.txn_engine.proofs.LimitLemmas.{IsUnderWay, active_has, rises, slot_is, under_way}
+use Rattle.txn_engine.proofs.RedoParts.{head_is, redo_is}
+
+ended_is : (slot : TxnSlot) (end : EndKind) (scn : ℕ) → IsTxnSlot slot → 1 ≤ slot.wrap → 1 ≤ scn → scn < 2 ^ 64 → IsTxnSlot (ended_slot slot end scn)
+unfolding ended_slot
+ended_is slot Commit scn is wrap some fits = record {
+  fits = (is.fits.0, (omega arith, (tt, (omega arith, (omega arith, (omega arith, is.fits.1.1.1.1.1.1))))));
+  state = (wrap, refl, refl, some);
+  prev = is.prev;
+}
+ended_is slot RollbackEnd scn is wrap some fits = record {
+  fits = (is.fits.0, (omega arith, (tt, (omega arith, (omega arith, (omega arith, is.fits.1.1.1.1.1.1))))));
+  state = (wrap, refl, refl, some);
+  prev = is.prev;
+}
+
+-- the change of a header is one
+pub head_change_is : (head : HeaderContent) (slot next : ℕ) (to : TxnSlot) → IsHeader head → head.front.version < 2 ^ 63 → slot < 8 → 1 ≤ next → next < 2 ^ 64 → IsTxnSlot to → IsHeadChange (head_change head slot next to)
+unfolding head_change
+head_change_is head slot next to is version within some fits is_slot =
+    let number = is.front.fits.1.1.0 in
+    head_is (head_change head slot next to) (omega arith) (omega arith) (omega arith) within some fits is_slot
+
+-- the name of a transaction under way
+pub xid_is : (head : HeaderContent) (x : Xid) → IsHeader head → head.front.seg < 8 → IsUnderWay head x → IsXid x × (x.wrap < 2 ^ 32)
+xid_is head x is seg under =
+    let slot = slot_is head x.slot is under.slot in
+    let has = active_has (slot_at head x.slot) slot under.active in
+    let some = has.0 in
+    let wrap = slot.fits.0 in
+    let same = under.wrap in
+    let seg_same = under.seg in
+    (record { segment = omega arith; slot = under.slot; wrap = omega arith }, omega arith)
+
+-- an end names no undo and has no changes but that of the header
+end_names : (end : EndKind) → NamesUndo (kind_of_end end) 0
+end_names Commit = refl
+end_names RollbackEnd = refl
+
+end_changes : (x : Xid) (end : EndKind) (head : HeaderContent) (scn : ℕ) → HasChanges (kind_of_end end) (end_record x end head scn)
+unfolding end_record
+end_changes x Commit head scn = (tt, tt)
+end_changes x RollbackEnd head scn = (tt, tt)
+
+pub end_is : (x : Xid) (end : EndKind) (head : HeaderContent) (clock : Clock) → IsHeader head → head.front.seg < 8 → may_end x end head clock ≡ true → IsRedo (end_record x end head (clock.scn + 1))
+unfolding end_record
+end_is x end head clock is seg may =
+    let a = both_true _ _ may in
+    let b = both_true _ _ a.0 in
+    let c = both_true _ _ b.0 in
+    let under = under_way head x c.0 in
+    let scn = rises clock.scn b.1 in
+    let version = rises head.front.version a.1 in
+    let name = xid_is head x is seg under in
+    let slot = slot_is head x.slot is under.slot in
+    let has = active_has (slot_at head x.slot) slot under.active in
+    let next = is.front.fits.1.1.1.1.1.1.1.0 in
+    redo_is (end_record x end head (clock.scn + 1))
+    (record { xid = name.0; wrap = name.1; some_scn = omega arith; scn = omega arith; seq = omega arith; names = end_names end })
+    (end_changes x end head (clock.scn + 1))
+    (head_change_is head x.slot head.front.next (ended_slot (slot_at head x.slot) end (clock.scn + 1)) is version under.slot is.front.next (omega arith) (ended_is (slot_at head x.slot) end (clock.scn + 1) slot has.0 (omega arith) (omega arith)))
+    tt tt
