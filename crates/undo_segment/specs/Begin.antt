@@ -13,9 +13,13 @@ use Rattle.undo_segment.specs.Segment.{SegmentState}
 abbrev pub is_free : TxnSlot → Bool
 is_free slot = not (is_active slot.state)
 
+-- A slot ended no later than another one, or that one is active.
+abbrev pub ended_no_later : TxnSlot → TxnSlot → Bool
+ended_no_later slot other = is_active other.state || nat_le slot.scn other.scn
+
 -- A slot is free, and no free slot ended before it.
 abbrev pub ended_first : List TxnSlot → TxnSlot → Bool
-ended_first slots slot = is_free slot && list_all (λ other. is_active other.state || nat_le slot.scn other.scn) slots
+ended_first slots slot = is_free slot && list_all (ended_no_later slot) slots
 
 -- the transaction that takes the slot with this number next
 abbrev pub next_of_slot : SegmentState → ℕ → Xid
@@ -25,9 +29,13 @@ next_of_slot own k = record { seg = own.head.front.seg; slot = k; wrap = min ((s
 abbrev pub next_xid : SegmentState → Option Xid
 next_xid own = option_map (next_of_slot own) (position (ended_first own.head.slots) own.head.slots)
 
+-- A slot's first undo record is no later than another one's, or that one isn't active.
+abbrev pub began_no_later : TxnSlot → TxnSlot → Bool
+began_no_later slot other = is_free other || nat_le slot.first other.first
+
 -- A slot is active, and no active slot has an earlier first undo record.
 abbrev pub began_first : List TxnSlot → TxnSlot → Bool
-began_first slots slot = is_active slot.state && list_all (λ other. is_free other || nat_le slot.first other.first) slots
+began_first slots slot = is_active slot.state && list_all (began_no_later slot) slots
 
 -- the slot whose transaction holds back the ring
 abbrev pub oldest : List TxnSlot → Option TxnSlot

@@ -1,6 +1,7 @@
 ghost use Rattle.std.specs.Prelude.{◌≡◌, ◌<◌, ◌≤◌, ◌/◌, option_copied};
 ghost use Rattle.base_types.specs.Layout.{segment_blocks, undo_block_of};
-ghost use Rattle.undo_segment.specs.Begin.{active_count, began_first, ended_first, next_xid, oldest, room};
+ghost use Rattle.std.specs.List.{list_all, position};
+ghost use Rattle.undo_segment.specs.Begin.{active_count, began_first, began_no_later, ended_first, ended_no_later, next_xid, oldest, room};
 ghost use Rattle.undo_segment.specs.Segment.{IsSegment, fetch, fetch_own, header_for, look, own_block_for, ring_block, undo_block_for};
 
 use crate::fetch::{Fetch, fetch_in};
@@ -130,7 +131,7 @@ impl Segment {
         ensures { result ≡ next_xid self.now }
     {
         let slots = self.slots();
-        let slot = slots.iter().position(|slot| ended_first(&slots, slot))?;
+        let slot = next_slot(&slots)?;
         Some(Xid {
             seg: self.head.seg(),
             slot: slot as u8,
@@ -185,32 +186,58 @@ impl Segment {
     }
 }
 
+// The first slot that ended first.
+fn next_slot(slots: &[TxnSlot]) -> Option<usize>
+    ensures { result ≡ position (ended_first slots.now) slots.now }
+{
+    slots.iter().position(|slot| ended_first(slots, slot))
+}
+
 // Whether the slot is free, and no free slot ended before it.
 fn ended_first(slots: &[TxnSlot], slot: &TxnSlot) -> bool
     ensures { result ≡ ended_first slots.now slot.now }
 {
-    !is_active(slot.state)
-        && slots
-            .iter()
-            .all(|other| is_active(other.state) || slot.scn.get() <= other.scn.get())
+    !is_active(slot.state) && none_ended_before(slots, slot)
 }
 
-// The active slot with the earliest first undo record.
-fn oldest(slots: &[TxnSlot]) -> Option<TxnSlot>
-    ensures { result ≡ oldest slots.now }
+// Whether the slot ended no later than each free one.
+fn none_ended_before(slots: &[TxnSlot], slot: &TxnSlot) -> bool
+    ensures { result ≡ list_all (ended_no_later slot.now) slots.now }
 {
-    slots
-        .iter()
-        .find(|slot| began_first(slots, slot))
-        .copied()
+    slots.iter().all(|other| ended_no_later(slot, other))
+}
+
+// Whether a slot ended no later than another one, or that one is active.
+fn ended_no_later(slot: &TxnSlot, other: &TxnSlot) -> bool
+    ensures { result ≡ ended_no_later slot.now other.now }
+{
+    is_active(other.state) || slot.scn.get() <= other.scn.get()
+}
+
+// The first slot that began first.
+fn oldest(slots: &[TxnSlot]) -> Option<&TxnSlot>
+    ensures { option_copied result ≡ oldest slots.now }
+{
+    slots.iter().find(|slot| began_first(slots, slot))
 }
 
 // Whether the slot is active, and no active slot has an earlier first undo record.
 fn began_first(slots: &[TxnSlot], slot: &TxnSlot) -> bool
     ensures { result ≡ began_first slots.now slot.now }
 {
-    is_active(slot.state)
-        && slots
-            .iter()
-            .all(|other| !is_active(other.state) || slot.first <= other.first)
+    is_active(slot.state) && none_began_before(slots, slot)
+}
+
+// Whether the first undo record of the slot is no later than that of each active one.
+fn none_began_before(slots: &[TxnSlot], slot: &TxnSlot) -> bool
+    ensures { result ≡ list_all (began_no_later slot.now) slots.now }
+{
+    slots.iter().all(|other| began_no_later(slot, other))
+}
+
+// Whether a slot's first undo record is no later than another one's, or that one isn't active.
+fn began_no_later(slot: &TxnSlot, other: &TxnSlot) -> bool
+    ensures { result ≡ began_no_later slot.now other.now }
+{
+    !is_active(other.state) || slot.first <= other.first
 }
