@@ -3,15 +3,17 @@ use Rattle.std.proofs.Common.{◌≡◌, ℕ, ◌+◌, ◌^◌, ◌<◌, ◌≤�
 use Rattle.base_types.specs.declared.names.Xid.{Xid}
 use Rattle.redo_types.specs.declared.undo.TxnSlot.{TxnSlot}
 use Rattle.part_image.specs.Undo.{IsTxnSlot}
-use Rattle.redo_record.specs.Redo.{HasChanges, IsHeadChange, IsRedo, IsXid, NamesUndo}
+use Rattle.redo_record.specs.Redo.{HasChanges, IsRedo, NamesUndo}
 use Rattle.undo_image.specs.Header.{HeaderContent, IsHeader, slot_at}
 use Rattle.scn_clock.specs.declared.clock.Clock.{Clock}
 use Rattle.journal.proofs.XidLemmas.{both_true}
 use Rattle.txn_engine.specs.declared.end.EndKind.{EndKind}
 use Rattle.txn_engine.specs.declared.end.EndKind.TheVariants.{Commit, RollbackEnd}
-use Rattle.txn_engine.specs.End.{end_record, ended_slot, head_change, kind_of_end, may_end, state_after}
-use Rattle.txn_engine.proofs.LimitLemmas.{IsUnderWay, active_has, rises, slot_is, under_way}
-use Rattle.txn_engine.proofs.RedoParts.{head_is, redo_is}
+use Rattle.txn_engine.specs.End.{end_record, ended_slot, kind_of_end, may_end, state_after}
+use Rattle.txn_engine.specs.Parts.{head_change}
+use Rattle.txn_engine.proofs.LimitLemmas.{active_has, rises, slot_is, under_way}
+use Rattle.txn_engine.proofs.PartLemmas.{head_change_is, xid_is}
+use Rattle.txn_engine.proofs.RedoParts.{redo_is}
 
 ended_is : (slot : TxnSlot) (end : EndKind) (scn : ℕ) → IsTxnSlot slot → 1 ≤ slot.wrap → 1 ≤ scn → scn < 2 ^ 64 → IsTxnSlot (ended_slot slot end scn)
 unfolding ended_slot
@@ -25,24 +27,6 @@ ended_is slot RollbackEnd scn is wrap some fits = record {
   state = (wrap, refl, refl, some);
   prev = is.prev;
 }
-
--- the change of a header is one
-pub head_change_is : (head : HeaderContent) (slot next : ℕ) (to : TxnSlot) → IsHeader head → head.front.version < 2 ^ 63 → slot < 8 → 1 ≤ next → next < 2 ^ 64 → IsTxnSlot to → IsHeadChange (head_change head slot next to)
-unfolding head_change
-head_change_is head slot next to is version within some fits is_slot =
-    let number = is.front.fits.1.1.0 in
-    head_is (head_change head slot next to) (omega arith) (omega arith) (omega arith) within some fits is_slot
-
--- the name of a transaction under way
-pub xid_is : (head : HeaderContent) (x : Xid) → IsHeader head → head.front.seg < 8 → IsUnderWay head x → IsXid x × (x.wrap < 2 ^ 32)
-xid_is head x is seg under =
-    let slot = slot_is head x.slot is under.slot in
-    let has = active_has (slot_at head x.slot) slot under.active in
-    let some = has.0 in
-    let wrap = slot.fits.0 in
-    let same = under.wrap in
-    let seg_same = under.seg in
-    (record { segment = omega arith; slot = under.slot; wrap = omega arith }, omega arith)
 
 -- an end names no undo and has no changes but that of the header
 end_names : (end : EndKind) → NamesUndo (kind_of_end end) 0

@@ -1,3 +1,5 @@
+pub mod BackLemmas
 pub mod EndLemmas
 pub mod LimitLemmas
+pub mod PartLemmas
 pub mod RedoParts

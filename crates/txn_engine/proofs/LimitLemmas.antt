@@ -31,7 +31,7 @@ under_way head x h =
 pub slot_is : (head : HeaderContent) (k : ℕ) → IsHeader head → k < 8 → IsTxnSlot (slot_at head k)
 slot_is head k is within = let eight = is.slots.eight in all_nth IsTxnSlot head.slots k never_slot (omega arith) is.slots.each
 
-active_state : (state : TxnState) → is_active state ≡ true → state ≡ Active
+pub active_state : (state : TxnState) → is_active state ≡ true → state ≡ Active
 active_state Active h = refl
 active_state Never h = absurd cc
 active_state Committed h = absurd cc

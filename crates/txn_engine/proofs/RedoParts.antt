@@ -19,11 +19,11 @@ use Rattle.part_image.specs.Undo.{HasRanges, IsTxnSlot, IsUndoRecord, txn_slot_c
 use Rattle.part_image.proofs.CellLemmas.{AllFit-append}
 use Rattle.redo_record.specs.Redo.{HasChanges, IsDataChange, IsHeadChange, IsRedo, IsUndoChange, IsXid, NamesUndo, cells_of, change_count, data_cells, head_cells, kind_number, length_of, redo_cells, undo_cells}
 
-flag_fits : (v : Value) → flag_of v < 256
+pub flag_fits : (v : Value) → flag_of v < 256
 flag_fits Absent = omega arith
 flag_fits (Num n) = omega arith
 
-bits_fit : (v : Value) → IsValue v → bits_of v < 256 ^ 8
+pub bits_fit : (v : Value) → IsValue v → bits_of v < 256 ^ 8
 bits_fit Absent is = omega arith
 bits_fit (Num n) is = (Fits-of_z {w = w64} {z = n} is).fits
 

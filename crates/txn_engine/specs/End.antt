@@ -2,7 +2,6 @@
 use Rattle.std.specs.Prelude.{ℕ, ◌+◌, ◌==◌, ◌&&◌, Bool, true, if◌then◌else◌, Option, None, Some}
 use Rattle.base_types.specs.declared.names.Scn.{Scn}
 use Rattle.base_types.specs.declared.names.Xid.{Xid}
-use Rattle.redo_types.specs.declared.redo.HeadChange.{HeadChange}
 use Rattle.redo_types.specs.declared.redo.Redo.{Redo}
 use Rattle.redo_types.specs.declared.redo.RedoKind.{RedoKind}
 use Rattle.redo_types.specs.declared.redo.RedoKind.TheVariants as kind
@@ -15,11 +14,7 @@ use Rattle.scn_clock.specs.declared.clock.Clock.{Clock}
 use Rattle.txn_engine.specs.declared.end.EndKind.{EndKind}
 use Rattle.txn_engine.specs.declared.end.EndKind.TheVariants.{Commit, RollbackEnd}
 use Rattle.txn_engine.specs.Limits.{is_under_way, may_rise}
-
--- A redo record touches the header of its transaction: it has one version more, this next sequence number, and this slot.
-unfoldable pub head_change : HeaderContent → ℕ → ℕ → TxnSlot → HeadChange
-head_change head slot next to =
-    record { block = head.front.number; version = head.front.version + 1; slot = slot; next = next; to = to }
+use Rattle.txn_engine.specs.Parts.{head_change}
 
 -- what becomes of a transaction by its end
 abbrev pub state_after : EndKind → TxnState

@@ -1,2 +1,4 @@
-pub mod Limits
+pub mod Back
 pub mod End
+pub mod Limits
+pub mod Parts

@@ -1,11 +1,12 @@
 ghost use Rattle.std.specs.Prelude.{◌≡◌, ◌+◌, ◌<◌, ◌^◌, IfSome};
 ghost use Rattle.undo_image.specs.Header.{slot_at};
 ghost use Rattle.redo_record.specs.Redo.{IsRedo};
-ghost use Rattle.txn_engine.specs.End.{allows_end, end_decision, end_record, ended_slot, head_change, kind_of_end, may_end, state_after};
+ghost use Rattle.txn_engine.specs.End.{allows_end, end_decision, end_record, ended_slot, kind_of_end, may_end, state_after};
 
 use crate::limits::{is_under_way, may_rise};
+use crate::parts::head_change;
 use base_types::{Scn, Xid};
-use redo_types::{HeadChange, Redo, RedoKind, TxnSlot, TxnState};
+use redo_types::{Redo, RedoKind, TxnSlot, TxnState};
 use scn_clock::Clock;
 use undo_image::UndoHeader;
 use undo_segment::Segment;
@@ -101,20 +102,5 @@ fn kind_of_end(end: EndKind) -> RedoKind
     match end {
         EndKind::Commit => RedoKind::Commit,
         EndKind::RollbackEnd => RedoKind::RollbackEnd,
-    }
-}
-
-/// What a record does to a header: it has one version more, this next sequence number, and this slot.
-#[tactic(auto, unfolding(crate::specs::End::head_change))]
-pub(crate) fn head_change(head: &UndoHeader, slot: u8, next: u64, to: TxnSlot) -> HeadChange
-    requires { head.now.front.version < 2 ^ 63 }
-    ensures { result ≡ head_change head.now slot next to }
-{
-    HeadChange {
-        block: head.number(),
-        version: head.version() + 1,
-        slot,
-        next,
-        to,
     }
 }
