@@ -44,3 +44,7 @@ undo_applied own change scn at = record own { blocks = blocks_after own change s
 -- a segment after the redo record at this place
 abbrev pub applied : SegmentState → Redo → ℕ → SegmentState
 applied own redo at = undo_applied (head_applied own redo.head redo.scn at) redo.undo redo.scn at
+
+-- the version of the undo block that a change touches; 0 where the segment has no such block
+abbrev pub version_of : SegmentState → UndoChange → ℕ
+version_of own change = (ring_block own (ring_place own change.block)).front.version

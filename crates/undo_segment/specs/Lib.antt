@@ -4,4 +4,5 @@ pub mod Segment
 pub mod Handed
 pub mod Begin
 pub mod Apply
+pub mod Dirty
 pub mod Load

@@ -27,19 +27,19 @@ ring_block own k = slice_index_or own.blocks k (empty_undo_block 0 0)
 abbrev pub since_at : SegmentState → ℕ → Option ℕ
 since_at own k = slice_index_or own.since k None
 
--- An undo block has its number, which is that of the header and its place from 1, and the header's segment.
-pub record IsBlockAt (own : SegmentState) (k : ℕ) : Type 0 where
-  pub number : (ring_block own k).front.number ≡ own.head.front.number + 1 + k
-  pub seg : (ring_block own k).front.seg ≡ own.head.front.seg
+-- An undo block has this number and is of this segment.
+pub record IsBlockOf (n segment : ℕ) (block : UndoContent) : Type 0 where
+  pub number : block.front.number ≡ n
+  pub seg : block.front.seg ≡ segment
 
--- A segment lies where its instance's does, and has an undo block for each four records.
+-- A segment lies where its instance's does, and has an undo block for each four records, one behind the other.
 pub record IsSegment (own : SegmentState) : Type 0 where
   pub layout : IsLayout own.layout
   pub seg : own.head.front.seg < own.layout.instances
   pub number : own.head.front.number ≡ head_block_of own.layout own.head.front.seg
   pub blocks : length own.blocks ≡ own.layout.undo / 4
   pub since : length own.since ≡ 1 + own.layout.undo / 4
-  pub each : (k : ℕ) → k < own.layout.undo / 4 → IsBlockAt own k
+  pub each : (k : ℕ) → k < own.layout.undo / 4 → IsBlockOf (own.head.front.number + 1 + k) own.head.front.seg (ring_block own k)
 
 -- The header of a segment, where it is at hand: the own one, or one that was handed in.
 abbrev pub header_for : SegmentState → HandedState → ℕ → Option HeaderContent

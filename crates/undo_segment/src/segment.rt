@@ -1,13 +1,17 @@
-ghost use Rattle.std.specs.Prelude.{◌≡◌, ◌<◌, ◌≤◌, ◌/◌, option_copied};
+ghost use Rattle.std.specs.Prelude.{◌≡◌, ◌<◌, ◌≤◌, ◌-◌, ◌/◌, ◌^◌, fold, option_copied, IfSome};
 ghost use Rattle.base_types.specs.Layout.{segment_blocks, undo_block_of};
 ghost use Rattle.std.specs.List.{list_all, position};
+ghost use Rattle.redo_record.specs.Redo.{IsHeadChange, IsRedo, IsUndoChange};
+ghost use Rattle.undo_segment.specs.Apply.{applied, dirtied, head_applied, ring_place, undo_applied, version_of};
+ghost use Rattle.undo_segment.specs.Dirty.{bytes_of, cleaned, earlier, first_dirty, is_dirty};
 ghost use Rattle.undo_segment.specs.Begin.{active_count, began_first, began_no_later, ended_first, ended_no_later, next_xid, oldest, room};
 ghost use Rattle.undo_segment.specs.Segment.{IsSegment, fetch, fetch_own, header_for, look, own_block_for, ring_block, undo_block_for};
 
 use crate::fetch::{Fetch, fetch_in};
 use crate::handed::Handed;
 use crate::look::{Look, is_active, look_in};
-use base_types::{BlockNo, InstNo, Layout, RedoAt, Xid};
+use base_types::{BlockNo, InstNo, Layout, RedoAt, Scn, Xid};
+use redo_types::{HeadChange, Redo, UndoChange};
 use std::marker::Model;
 use thiserror::Error;
 use undo_image::{TxnSlot, UndoBlock, UndoHeader};
@@ -167,6 +171,95 @@ impl Segment {
             .count() as u8
     }
 
+    /// Applies the redo record at this place to the header, and to the undo block that it writes to, if it writes to one
+    /// of this segment. The versions of both must not be the last `u64`.
+    pub fn apply(&mut self, redo: &Redo, at: RedoAt)
+        requires is_redo { IsRedo redo.now }
+        requires head { self.old.head.front.version < 2 ^ 64 - 1 }
+        requires undo { IfSome redo.now.undo (λ change. version_of self.old change < 2 ^ 64 - 1) }
+        ensures { self.new ≡ applied self.old redo.now at }
+    {
+        self.apply_head(&redo.head, redo.scn, at);
+        if let Some(change) = &redo.undo {
+            self.apply_undo(change, redo.scn, at);
+        }
+    }
+
+    /// Applies the change of the header by the redo record at this place, with its SCN, at least 1. The header's version
+    /// must not be the last `u64`.
+    pub fn apply_head(&mut self, change: &HeadChange, scn: Scn, at: RedoAt)
+        requires change { IsHeadChange change.now }
+        requires scn { 1 ≤ scn }
+        requires version { self.old.head.front.version < 2 ^ 64 - 1 }
+        ensures { self.new ≡ head_applied self.old change.now scn at }
+    {
+        self.head.set(change.slot, &change.to, change.next, scn);
+        self.since[0] = dirtied(self.since[0], at);
+    }
+
+    /// Applies the change of an undo block by the redo record at this place, with its SCN, at least 1: none where the
+    /// segment has no block with that number. The block's version must not be the last `u64`.
+    pub fn apply_undo(&mut self, change: &UndoChange, scn: Scn, at: RedoAt)
+        requires change { IsUndoChange change.now }
+        requires scn { 1 ≤ scn }
+        requires version { version_of self.old change.now < 2 ^ 64 - 1 }
+        ensures { self.new ≡ undo_applied self.old (Some change.now) scn at }
+    {
+        let k = self.ring_place(change.block);
+        if k < self.blocks.len() {
+            let block = &mut self.blocks[k];
+            block.set(change.place, &change.to, scn);
+            self.since[k + 1] = dirtied(self.since[k + 1], at);
+        }
+    }
+
+    // The place in the ring of the undo block with a number; past the ring's end where there is none.
+    fn ring_place(&self, number: BlockNo) -> usize
+        ensures { result ≡ ring_place self.now number }
+    {
+        let head = self.head.number();
+        if head.get() < number.get() {
+            usize::from(number.get() - head.get() - 1)
+        } else {
+            self.blocks.len()
+        }
+    }
+
+    /// The earliest place since when a block is dirty: redo from there on is needed if the segment is lost.
+    pub fn first_dirty(&self) -> Option<RedoAt>
+        ensures { result ≡ first_dirty self.now }
+    {
+        earliest(&self.since)
+    }
+
+    /// Whether the block with this place in the segment, 0 for the header, is dirty.
+    pub fn is_dirty(&self, k: u8) -> bool
+        requires { k ≤ self.now.layout.undo / 4 }
+        ensures { result ≡ is_dirty self.now k }
+    {
+        self.since[usize::from(k)].is_some()
+    }
+
+    /// Notes that the block with this place in the segment, 0 for the header, was written as it is now.
+    pub fn wrote(&mut self, k: u8)
+        requires { k ≤ self.old.layout.undo / 4 }
+        ensures { self.new ≡ cleaned self.old k }
+    {
+        self.since[usize::from(k)] = None;
+    }
+
+    /// Writes the bytes of the block with this place in the segment, 0 for the header.
+    pub fn bytes_of(&self, k: u8, out: &mut [u8; 512])
+        requires { k ≤ self.now.layout.undo / 4 }
+        ensures { out.new ≡ bytes_of self.now k }
+    {
+        if k == 0 {
+            self.head.write(out);
+        } else {
+            self.blocks[usize::from(k) - 1].write(out);
+        }
+    }
+
     // The slots of the transaction table.
     fn slots(&self) -> [TxnSlot; 8]
         ensures { result ≡ self.now.head.slots }
@@ -240,4 +333,34 @@ fn began_no_later(slot: &TxnSlot, other: &TxnSlot) -> bool
     ensures { result ≡ began_no_later slot.now other.now }
 {
     !is_active(other.state) || slot.first <= other.first
+}
+
+// Since when a block is dirty that redo from a place on touches.
+fn dirtied(first: Option<RedoAt>, at: RedoAt) -> Option<RedoAt>
+    ensures { result ≡ dirtied first at }
+{
+    match first {
+        None => Some(at),
+        Some(first) => Some(first),
+    }
+}
+
+// The earliest of these places.
+fn earliest(since: &[Option<RedoAt>]) -> Option<RedoAt>
+    ensures { result ≡ fold earlier None since.now }
+{
+    since
+        .iter()
+        .fold(None, |first, other| earlier(first, *other))
+}
+
+// The earlier of two places, as far as there are any.
+fn earlier(at: Option<RedoAt>, other: Option<RedoAt>) -> Option<RedoAt>
+    ensures { result ≡ earlier at other }
+{
+    match (at, other) {
+        (None, other) => other,
+        (Some(at), None) => Some(at),
+        (Some(at), Some(other)) => Some(RedoAt(at.get().min(other.get()))),
+    }
 }
