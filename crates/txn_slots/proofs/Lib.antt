@@ -1,0 +1,3 @@
+pub mod ChoiceLemmas
+pub mod LockLemmas
+pub mod SlotLemmas
