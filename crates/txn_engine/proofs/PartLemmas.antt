@@ -65,7 +65,7 @@ length_let_go true k rows = length-map rows (unlocked k)
 length_let_go false k rows = refl
 
 -- a lock that names a slot still does where another one is set, or that one to a used one
-names_after : (itl : List ItlSlot) (k lock : ℕ) (slot : ItlSlot) → 1 ≤ k → k ≤ length itl → (lock ≢ k) ⊎ (1 ≤ slot.xid.wrap) → NamesSlot itl lock → NamesSlot (set itl (k - 1) slot) lock
+pub names_after : (itl : List ItlSlot) (k lock : ℕ) (slot : ItlSlot) → 1 ≤ k → k ≤ length itl → (lock ≢ k) ⊎ (1 ≤ slot.xid.wrap) → NamesSlot itl lock → NamesSlot (set itl (k - 1) slot) lock
 names_after itl k lock slot some few how (inl none) = inl none
 names_after itl k lock slot some few (inl other) (inr (low, high, used)) =
     let apart : lock - 1 ≢ k - 1 = λ same. other (omega arith) in
