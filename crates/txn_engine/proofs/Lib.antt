@@ -1,4 +1,5 @@
 pub mod BackLemmas
+pub mod ChangeLemmas
 pub mod EndLemmas
 pub mod LimitLemmas
 pub mod PartLemmas
