@@ -15,13 +15,14 @@ use Rattle.block_image.specs.Block.{BlockContent, IsBlock, NamesSlot, clear_row,
 use Rattle.block_image.specs.Changes.{applied}
 use Rattle.block_image.proofs.EachLemmas.{all_nth, all_set}
 use Rattle.redo_record.specs.Redo.{IsRedo}
-use Rattle.undo_image.specs.Header.{HeaderContent, IsHeader, slot_at}
+use Rattle.undo_image.specs.Header.{IsHeader, slot_at}
 use Rattle.undo_segment.specs.Look.{is_active}
+use Rattle.undo_segment.specs.Segment.{IsSegment, SegmentState}
 use Rattle.scn_clock.specs.declared.clock.Clock.{Clock}
 use Rattle.journal.proofs.XidLemmas.{both_true}
 use Rattle.txn_engine.specs.Back.{back_record, keeps_locks, lets_go, lock_back, locks_of, may_step_back, row_back, slot_back, stands_from}
 use Rattle.txn_engine.specs.Limits.{is_under_way}
-use Rattle.txn_engine.specs.Parts.{IsDecided, data_change}
+use Rattle.txn_engine.specs.Parts.{FitsBoth, data_change}
 use Rattle.txn_engine.proofs.LimitLemmas.{active_has, active_state, rises, slot_is, under_way}
 use Rattle.txn_engine.proofs.PartLemmas.{MayApply, applied_is, head_change_is, locks_with_used, locks_without, names_after, xid_is}
 use Rattle.txn_engine.proofs.RedoParts.{data_is, redo_is}
@@ -89,10 +90,14 @@ locks_after image u scn is is_undo keeps =
         (all_set (λ r. NamesSlot image.itl r.lock) image.rows u.row new names is.locks)
     ]
 
-pub back_is : (x : Xid) (u : UndoRecord) (head : HeaderContent) (image : BlockContent) (clock : Clock) → IsHeader head → head.front.seg < 8 → is_under_way head x ≡ true → IsUndoRecord u → IsBlock image → may_step_back x u head image clock ≡ true
-    → IsDecided image (back_record x u head image (clock.scn + 1))
+pub back_fits : (x : Xid) (u : UndoRecord) (segment : SegmentState) (image : BlockContent) (clock : Clock) → IsSegment segment → IsHeader segment.head → is_under_way segment.head x ≡ true → IsUndoRecord u → IsBlock image → may_step_back x u segment.head image clock ≡ true
+    → FitsBoth segment image (back_record x u segment.head image (clock.scn + 1))
 unfolding back_record row_back data_change
-back_is x u head image clock is seg going is_undo is_block may =
+back_fits x u segment image clock is_segment is going is_undo is_block may =
+    let head = segment.head in
+    let few = is_segment.layout.few_instances in
+    let in_layout = is_segment.seg in
+    let seg : head.front.seg < 8 = omega arith in
     let a = both_true _ _ may in
     let b = both_true _ _ a.0 in
     let c = both_true _ _ b.0 in
@@ -115,16 +120,16 @@ back_is x u head image clock is seg going is_undo is_block may =
     let small = lock_small image.itl (lock_back image u) names in
     let some_scn : 1 ≤ clock.scn + 1 = omega arith in
     let scn_fits : clock.scn + 1 < 2 ^ 64 = omega arith in
-    record {
-      is = redo_is (back_record x u head image (clock.scn + 1))
-          (record { xid = name.0; wrap = name.1; some_scn = some_scn; scn = scn_fits; seq = omega arith; names = is_undo.ranges.seq })
-          (tt, tt)
-          (head_change_is head x.slot head.front.next (slot_back (slot_at head x.slot) u) is head_version under.slot some_next (omega arith) (slot_back_is (slot_at head x.slot) u slot under.active (omega arith) d.1))
-          tt
-          (data_is (data_change image (row_back image u))
-          (record { block = block; some_version = omega arith; version = omega arith; row = is_undo.ranges.row; lock = small; some_itl = is_undo.ranges.some_itl; itl = is_undo.ranges.itl })
-          is_undo.old_itl is_undo.old);
-      block = applied_is image (row_back image u) (clock.scn + 1) is_block (record {
+    let is_redo : IsRedo (back_record x u head image (clock.scn + 1)) =
+    redo_is (back_record x u head image (clock.scn + 1))
+    (record { xid = name.0; wrap = name.1; some_scn = some_scn; scn = scn_fits; seq = omega arith; names = is_undo.ranges.seq })
+    (tt, tt)
+    (head_change_is head x.slot head.front.next (slot_back (slot_at head x.slot) u) is head_version under.slot some_next (omega arith) (slot_back_is (slot_at head x.slot) u slot under.active (omega arith) d.1))
+    tt
+    (data_is (data_change image (row_back image u))
+    (record { block = block; some_version = omega arith; version = omega arith; row = is_undo.ranges.row; lock = small; some_itl = is_undo.ranges.some_itl; itl = is_undo.ranges.itl })
+    is_undo.old_itl is_undo.old) in
+    let is_after : IsBlock (applied image (row_back image u) (clock.scn + 1)) = applied_is image (row_back image u) (clock.scn + 1) is_block (record {
         version = image_version;
         some_scn = some_scn;
         scn_fits = scn_fits;
@@ -135,5 +140,8 @@ back_is x u head image clock is seg going is_undo is_block may =
         slot = is_undo.old_itl;
         value = is_undo.old;
         locks = locks_after image u (clock.scn + 1) is_block is_undo e.1;
-      });
+    }) in
+    record {
+      segment_fits = record { is = is_redo; head = omega arith; undo = tt };
+      image_fits = record { version = omega arith; block = is_after };
     }

@@ -16,6 +16,7 @@ use Rattle.part_image.specs.Slots.{IsItl, IsValue, unused_itl}
 use Rattle.part_image.specs.Undo.{HasState, IsTxnSlot, IsUndoRecord}
 use Rattle.block_image.specs.Block.{BlockContent, IsBlock, IsRow, NamesSlot, clear_row, row_at}
 use Rattle.block_image.specs.Block.{slot_at as itl_at}
+use Rattle.block_image.specs.Changes.{applied}
 use Rattle.block_image.proofs.EachLemmas.{all_nth}
 use Rattle.redo_record.specs.Redo.{HasChanges, IsRedo, IsXid, NamesUndo}
 use Rattle.undo_image.specs.Header.{HeaderContent, IsHeader, never_slot, slot_at}
@@ -23,6 +24,7 @@ use Rattle.undo_image.specs.UndoBlock.{IsUndoBlock}
 use Rattle.undo_segment.specs.Begin.{ended_first, next_of_slot}
 use Rattle.undo_segment.specs.Look.{is_active}
 use Rattle.undo_segment.specs.Segment.{IsSegment, SegmentState}
+use Rattle.txn_engine.proofs.RingPlaces.{version_at}
 use Rattle.scn_clock.specs.declared.clock.Clock.{Clock}
 use Rattle.journal.proofs.XidLemmas.{both_true}
 use Rattle.txn_engine.specs.declared.ask.ChangeAsk.{ChangeAsk}
@@ -31,7 +33,7 @@ use Rattle.txn_engine.specs.declared.ask.Wish.TheVariants.{Put, Add, Del, Lock}
 use Rattle.txn_engine.specs.declared.made.Plan.{Plan}
 use Rattle.txn_engine.specs.Change.{change_record, head_made, is_within_limits, kind_of, own_or_next, row_made, slot_after, stood_last, undo_change, undo_made}
 use Rattle.txn_engine.specs.Limits.{may_go_on}
-use Rattle.txn_engine.specs.Parts.{IsDecided, data_change, undo_block_at}
+use Rattle.txn_engine.specs.Parts.{FitsBoth, data_change, undo_block_at}
 use Rattle.txn_engine.proofs.LimitLemmas.{active_has, rises, slot_is, under_way}
 use Rattle.txn_engine.proofs.PartLemmas.{applied_is, head_change_is, locks_with_used, xid_is}
 use Rattle.txn_engine.proofs.RedoParts.{data_is, redo_is, undo_is, undo_record_is}
@@ -160,10 +162,10 @@ made_is ask plan image head is named some_itl itl some next version =
     (all_nth IsItl image.itl (plan.itl - 1) unused_itl (omega arith) is.slots)
     (all_nth IsRow image.rows (ask.row % 8) clear_row (omega arith) is.rows).value
 
-pub change_is : (ask : ChangeAsk) (plan : Plan) (image : BlockContent) (segment : SegmentState) (clock : Clock) → IsSegment segment → IsHeader segment.head → IsBlock image → IsUndoBlock (undo_block_at segment segment.head.front.next) → MayMake ask plan image segment clock
-    → IsDecided image (change_record ask plan image segment (clock.scn + 1))
+pub change_fits : (ask : ChangeAsk) (plan : Plan) (image : BlockContent) (segment : SegmentState) (clock : Clock) → IsSegment segment → IsHeader segment.head → IsBlock image → IsUndoBlock (undo_block_at segment segment.head.front.next) → MayMake ask plan image segment clock
+    → FitsBoth segment image (change_record ask plan image segment (clock.scn + 1))
 unfolding change_record row_made data_change undo_change undo_made
-change_is ask plan image segment clock is_segment is is_block is_undo may =
+change_fits ask plan image segment clock is_segment is is_block is_undo may =
     let head = segment.head in
     let a = both_true _ _ may.limits in
     let b = both_true _ _ a.0 in
@@ -197,16 +199,16 @@ change_is ask plan image segment clock is_segment is is_block is_undo may =
     let change = row_made ask plan head.front.next in
     let names : NamesSlot (set image.itl (plan.itl - 1) (record { xid = plan.xid; seq = head.front.next })) plan.itl =
     inr (some_itl, itl, subst (λ (s : ItlSlot). 1 ≤ s.xid.wrap) (sym its) named.xid.wrap) in
-    record {
-      is = redo_is (change_record ask plan image segment (clock.scn + 1))
-          (record { xid = named.xid; wrap = named.wrap; some_scn = some_scn; scn = scn_fits; seq = omega arith; names = names_undo ask.wish head.front.next some })
-          (has_changes ask plan image segment (clock.scn + 1) ask.wish)
-          (head_change_is head plan.xid.slot (head.front.next + 1) (slot_after ask.own (slot_at head plan.xid.slot) plan.xid.wrap head.front.next) is head_version named.xid.slot (omega arith) (omega arith) named.after)
-          (undo_is (undo_change (undo_block_at segment head.front.next) (undo_made ask plan image head)) (omega arith) (omega arith) (omega arith) place made)
-          (data_is (data_change image change)
-          (record { block = block; some_version = omega arith; version = omega arith; row = row; lock = itl; some_itl = some_itl; itl = itl })
-          slot may.value);
-      block = applied_is image change (clock.scn + 1) is_block (record {
+    let is_redo : IsRedo (change_record ask plan image segment (clock.scn + 1)) =
+    redo_is (change_record ask plan image segment (clock.scn + 1))
+    (record { xid = named.xid; wrap = named.wrap; some_scn = some_scn; scn = scn_fits; seq = omega arith; names = names_undo ask.wish head.front.next some })
+    (has_changes ask plan image segment (clock.scn + 1) ask.wish)
+    (head_change_is head plan.xid.slot (head.front.next + 1) (slot_after ask.own (slot_at head plan.xid.slot) plan.xid.wrap head.front.next) is head_version named.xid.slot (omega arith) (omega arith) named.after)
+    (undo_is (undo_change (undo_block_at segment head.front.next) (undo_made ask plan image head)) (omega arith) (omega arith) (omega arith) place made)
+    (data_is (data_change image change)
+    (record { block = block; some_version = omega arith; version = omega arith; row = row; lock = itl; some_itl = some_itl; itl = itl })
+    slot may.value) in
+    let is_after : IsBlock (applied image change (clock.scn + 1)) = applied_is image change (clock.scn + 1) is_block (record {
         version = image_version;
         some_scn = some_scn;
         scn_fits = scn_fits;
@@ -217,5 +219,9 @@ change_is ask plan image segment clock is_segment is is_block is_undo may =
         slot = slot;
         value = may.value;
         locks = locks_with_used image change (clock.scn + 1) is_block some_itl itl named.xid.wrap names;
-      });
+    }) in
+    let its_version = version_at segment head.front.next is_segment in
+    record {
+      segment_fits = record { is = is_redo; head = omega arith; undo = rw its_version (omega arith) };
+      image_fits = record { version = omega arith; block = is_after };
     }

@@ -5,12 +5,13 @@ use Rattle.redo_types.specs.declared.undo.TxnSlot.{TxnSlot}
 use Rattle.part_image.specs.Undo.{IsTxnSlot}
 use Rattle.redo_record.specs.Redo.{HasChanges, IsRedo, NamesUndo}
 use Rattle.undo_image.specs.Header.{HeaderContent, IsHeader, slot_at}
+use Rattle.undo_segment.specs.Segment.{IsSegment, SegmentState}
 use Rattle.scn_clock.specs.declared.clock.Clock.{Clock}
 use Rattle.journal.proofs.XidLemmas.{both_true}
 use Rattle.txn_engine.specs.declared.end.EndKind.{EndKind}
 use Rattle.txn_engine.specs.declared.end.EndKind.TheVariants.{Commit, RollbackEnd}
 use Rattle.txn_engine.specs.End.{end_record, ended_slot, kind_of_end, may_end, state_after}
-use Rattle.txn_engine.specs.Parts.{head_change}
+use Rattle.txn_engine.specs.Parts.{FitsSegment, head_change}
 use Rattle.txn_engine.proofs.LimitLemmas.{active_has, rises, slot_is, under_way}
 use Rattle.txn_engine.proofs.PartLemmas.{head_change_is, xid_is}
 use Rattle.txn_engine.proofs.RedoParts.{redo_is}
@@ -38,7 +39,7 @@ unfolding end_record
 end_changes x Commit head scn = (tt, tt)
 end_changes x RollbackEnd head scn = (tt, tt)
 
-pub end_is : (x : Xid) (end : EndKind) (head : HeaderContent) (clock : Clock) → IsHeader head → head.front.seg < 8 → may_end x end head clock ≡ true → IsRedo (end_record x end head (clock.scn + 1))
+end_is : (x : Xid) (end : EndKind) (head : HeaderContent) (clock : Clock) → IsHeader head → head.front.seg < 8 → may_end x end head clock ≡ true → IsRedo (end_record x end head (clock.scn + 1))
 unfolding end_record
 end_is x end head clock is seg may =
     let a = both_true _ _ may in
@@ -56,3 +57,11 @@ end_is x end head clock is seg may =
     (end_changes x end head (clock.scn + 1))
     (head_change_is head x.slot head.front.next (ended_slot (slot_at head x.slot) end (clock.scn + 1)) is version under.slot is.front.next (omega arith) (ended_is (slot_at head x.slot) end (clock.scn + 1) slot has.0 (omega arith) (omega arith)))
     tt tt
+
+pub end_fits : (x : Xid) (end : EndKind) (segment : SegmentState) (clock : Clock) → IsSegment segment → IsHeader segment.head → may_end x end segment.head clock ≡ true → FitsSegment segment (end_record x end segment.head (clock.scn + 1))
+unfolding end_record
+end_fits x end segment clock is_segment is may =
+    let few = is_segment.layout.few_instances in
+    let within = is_segment.seg in
+    let version = rises segment.head.front.version (both_true _ _ may).1 in
+    record { is = end_is x end segment.head clock is (omega arith) may; head = omega arith; undo = tt }

@@ -4,3 +4,4 @@ pub mod EndLemmas
 pub mod LimitLemmas
 pub mod PartLemmas
 pub mod RedoParts
+pub mod RingPlaces

@@ -1,5 +1,5 @@
 -- What each redo record is made of.
-use Rattle.std.specs.Prelude.{◌≡◌, ℕ, ◌+◌, ◌-◌, ◌/◌, ◌%◌, Option, None, Some, IfSome}
+use Rattle.std.specs.Prelude.{ℕ, ◌+◌, ◌-◌, ◌/◌, ◌%◌, ◌^◌, ◌<◌, Option, IfSome}
 use Rattle.base_types.specs.declared.names.Scn.{Scn}
 use Rattle.redo_types.specs.declared.blocks.RowChange.{RowChange}
 use Rattle.redo_types.specs.declared.redo.DataChange.{DataChange}
@@ -12,6 +12,7 @@ use Rattle.block_image.specs.Changes.{applied}
 use Rattle.redo_record.specs.Redo.{IsRedo}
 use Rattle.undo_image.specs.Header.{HeaderContent}
 use Rattle.undo_image.specs.UndoBlock.{UndoContent, record_at}
+use Rattle.undo_segment.specs.Apply.{version_of}
 use Rattle.undo_segment.specs.Segment.{SegmentState, ring_block}
 
 -- A redo record touches the header of its transaction: it has one version more, this next sequence number, and this slot.
@@ -32,7 +33,18 @@ undo_block_at segment seq = ring_block segment ((seq - 1) % segment.layout.undo 
 abbrev pub undo_at : SegmentState → ℕ → Option UndoRecord
 undo_at segment seq = record_at (undo_block_at segment seq) ((seq - 1) % 4)
 
--- A record that was decided is one, and the data block is one after it.
-pub record IsDecided (image : BlockContent) (r : Redo) : Type 0 where
+-- A record is one, and may be applied to the segment.
+pub record FitsSegment (segment : SegmentState) (r : Redo) : Type 0 where
   pub is : IsRedo r
-  pub block : IfSome r.row (λ d. IsBlock (applied image d.to r.scn))
+  pub head : segment.head.front.version < 2 ^ 64 - 1
+  pub undo : IfSome r.undo (λ change. version_of segment change < 2 ^ 64 - 1)
+
+-- A record may be applied to the image of its data block, if it changes one.
+pub record FitsImage (image : BlockContent) (r : Redo) : Type 0 where
+  pub version : image.front.version < 2 ^ 64 - 1
+  pub block : IfSome r.row (λ change. IsBlock (applied image change.to r.scn))
+
+-- A record may be applied to the segment and to the image.
+pub record FitsBoth (segment : SegmentState) (image : BlockContent) (r : Redo) : Type 0 where
+  pub segment_fits : FitsSegment segment r
+  pub image_fits : FitsImage image r

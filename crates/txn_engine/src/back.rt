@@ -5,7 +5,7 @@ ghost use Rattle.undo_image.specs.Header.{slot_at};
 ghost use Rattle.txn_engine.specs.declared.back.NextBack.TheVariants.{Undo};
 ghost use Rattle.txn_engine.specs.Back.{IsGoing, IsNext, back_decision, back_of, back_record, block_of, is_undo_of, keeps_locks, lets_go, lock_back, locks_of, may_step_back, names_undo, next_back, next_of, row_back, slot_back, stands_from};
 ghost use Rattle.txn_engine.specs.Limits.{is_under_way};
-ghost use Rattle.txn_engine.specs.Parts.{IsDecided};
+ghost use Rattle.txn_engine.specs.Parts.{FitsBoth};
 
 use crate::limits::{is_data_block, is_under_way, may_rise};
 use crate::parts::{always_is_block, data_change, head_change, undo_at};
@@ -47,14 +47,10 @@ pub fn decide_back(
     clock: &Clock,
 ) -> Option<Redo>
     ensures decided { result ≡ back_decision xid.now segment.now image.now clock.now }
-    ensures is_decided { IfSome result (IsDecided image.now) }
+    ensures fits { IfSome result (FitsBoth segment.now image.now) }
 {
-    segment.always_is_segment();
-    let head = segment.header();
-    head.always_is_header();
-    always_is_block(image);
     match next_back(xid, segment) {
-        NextBack::Undo(undo) => back_of(xid, &undo, head, image, clock),
+        NextBack::Undo(undo) => back_of(xid, &undo, segment, image, clock),
         NextBack::Nothing | NextBack::Bad => None,
     }
 }
@@ -62,16 +58,17 @@ pub fn decide_back(
 fn back_of(
     xid: &Xid,
     undo: &UndoRecord,
-    head: &UndoHeader,
+    segment: &Segment,
     image: &DataBlock,
     clock: &Clock,
 ) -> Option<Redo>
-    requires segment { head.now.front.seg < 8 }
-    requires under_way { is_under_way head.now xid.now ≡ true }
+    requires under_way { is_under_way segment.now.head xid.now ≡ true }
     requires undo { IsUndoRecord undo.now }
-    ensures decided { result ≡ back_of (Undo undo.now) xid.now head.now image.now clock.now }
-    ensures is_decided { IfSome result (IsDecided image.now) }
+    ensures decided { result ≡ back_of (Undo undo.now) xid.now segment.now.head image.now clock.now }
+    ensures fits { IfSome result (FitsBoth segment.now image.now) }
 {
+    segment.always_is_segment();
+    let head = segment.header();
     head.always_is_header();
     always_is_block(image);
     if may_step_back(xid, undo, head, image, clock) {

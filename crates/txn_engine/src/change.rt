@@ -1,13 +1,13 @@
 ghost use Rattle.std.specs.Prelude.{◌≡◌, ◌≤◌, ◌<◌, ◌+◌, ◌%◌, ◌^◌, true, Ok, Some, IfOk};
 ghost use Rattle.part_image.specs.Slots.{IsValue};
 ghost use Rattle.block_image.specs.Block.{BlockContent, row_at};
-ghost use Rattle.undo_segment.specs.Segment.{look};
+ghost use Rattle.undo_segment.specs.Segment.{SegmentState, look};
 ghost use Rattle.txn_slots.specs.Choice.{choose_slot};
 ghost use Rattle.undo_segment.specs.Begin.{room};
 ghost use Rattle.txn_slots.specs.Lock.{lock_row, released_at};
 ghost use Rattle.txn_engine.specs.declared.ask.Decision.TheVariants.{Do};
 ghost use Rattle.txn_engine.specs.Change.{IfDo, change_record, change_decision, free_decision, is_lock, is_within_limits, late_decision, lock_decision, may_wait, number_of, own_or_next, released_decision, room_decision, slot_decision, sum_of, txn_decision, value_after, value_decision};
-ghost use Rattle.txn_engine.specs.Parts.{IsDecided};
+ghost use Rattle.txn_engine.specs.Parts.{FitsBoth};
 
 use crate::ask::{ChangeAsk, Decision, Wish};
 use crate::limits::{has_row, may_go_on, may_rise};
@@ -34,7 +34,7 @@ pub fn decide_change(
     on_disk: Scn,
 ) -> Decision
     ensures decided { result ≡ change_decision ask.now image.now segment.now handed.now clock.now on_disk }
-    ensures is_decided { IfDo result (IsDecided image.now) }
+    ensures fits { IfDo result (FitsBoth segment.now image.now) }
 {
     if !is_within_limits(ask, image, segment, clock) {
         return Decision::Bad;
@@ -76,7 +76,7 @@ fn lock_decision(
 ) -> Decision
     requires limits { is_within_limits ask.now image.now segment.now clock.now ≡ true }
     ensures decided { result ≡ lock_decision answer.now ask.now image.now segment.now handed.now clock.now on_disk }
-    ensures is_decided { IfDo result (IsDecided image.now) }
+    ensures fits { IfDo result (FitsBoth segment.now image.now) }
 {
     match answer {
         LockAnswer::Need(wanted) => Decision::Need(*wanted),
@@ -109,7 +109,7 @@ fn released_decision(
 ) -> Decision
     requires limits { is_within_limits ask.now image.now segment.now clock.now ≡ true }
     ensures decided { result ≡ released_decision released.now ask.now image.now segment.now handed.now clock.now on_disk }
-    ensures is_decided { IfDo result (IsDecided image.now) }
+    ensures fits { IfDo result (FitsBoth segment.now image.now) }
 {
     if released.at().get() > ask.snapshot.get() {
         late_decision(released, segment.header().seg(), on_disk)
@@ -120,7 +120,7 @@ fn released_decision(
 
 fn late_decision(released: &Released, seg: InstNo, on_disk: Scn) -> Decision
     ensures decided { result ≡ late_decision released.now seg on_disk }
-    ensures is_decided { (image : BlockContent) → IfDo result (IsDecided image) }
+    ensures fits { (segment : SegmentState) (image : BlockContent) → IfDo result (FitsBoth segment image) }
 {
     if released.at().get() > on_disk.get() && may_wait(released, seg) {
         Decision::ForceFirst
@@ -148,7 +148,7 @@ fn free_decision(
 ) -> Decision
     requires limits { is_within_limits ask.now image.now segment.now clock.now ≡ true }
     ensures decided { result ≡ free_decision ask.now image.now segment.now handed.now clock.now }
-    ensures is_decided { IfDo result (IsDecided image.now) }
+    ensures fits { IfDo result (FitsBoth segment.now image.now) }
 {
     match value_after(&ask.wish, image.row(row_in_block(ask.row))) {
         Ok(value) => match own_or_next(&ask.own, segment) {
@@ -233,7 +233,7 @@ fn slot_decision(
     requires xid { own_or_next ask.now.own segment.now ≡ Some xid.now }
     requires value { IsValue value }
     ensures decided { result ≡ slot_decision (choose_slot ask.now.own (look segment.now handed.now) image.now.itl) ask.now xid.now value image.now segment.now clock.now }
-    ensures is_decided { IfDo result (IsDecided image.now) }
+    ensures fits { IfDo result (FitsBoth segment.now image.now) }
 {
     match choose_slot(image, &ask.own, segment, handed) {
         SlotAnswer::Need(wanted) => Decision::Need(wanted),
@@ -266,7 +266,7 @@ fn room_decision(
     requires itl { plan.now.itl ≤ 4 }
     requires value { IsValue plan.now.value }
     ensures decided { result ≡ room_decision (room segment.now) ask.now plan.now image.now segment.now clock.now }
-    ensures is_decided { IfDo result (IsDecided image.now) }
+    ensures fits { IfDo result (FitsBoth segment.now image.now) }
 {
     match segment.room() {
         Ok(_next) => made(ask, plan, image, segment, clock),
@@ -291,7 +291,7 @@ fn made(
     requires itl { plan.now.itl ≤ 4 }
     requires value { IsValue plan.now.value }
     ensures decided { result ≡ Do (change_record ask.now plan.now image.now segment.now (clock.now.scn + 1)) }
-    ensures is_decided { IfDo result (IsDecided image.now) }
+    ensures fits { IfDo result (FitsBoth segment.now image.now) }
 {
     segment.always_is_segment();
     let head = segment.header();

@@ -1,6 +1,6 @@
 ghost use Rattle.std.specs.Prelude.{◌≡◌, ◌+◌, ◌<◌, ◌^◌, IfSome};
 ghost use Rattle.undo_image.specs.Header.{slot_at};
-ghost use Rattle.redo_record.specs.Redo.{IsRedo};
+ghost use Rattle.txn_engine.specs.Parts.{FitsSegment};
 ghost use Rattle.txn_engine.specs.End.{allows_end, end_decision, end_record, ended_slot, kind_of_end, may_end, state_after};
 
 use crate::limits::{is_under_way, may_rise};
@@ -23,7 +23,7 @@ pub enum EndKind {
 /// ends while something of it stands, or where a number is at its limit.
 pub fn decide_end(xid: &Xid, end: EndKind, segment: &Segment, clock: &Clock) -> Option<Redo>
     ensures decided { result ≡ end_decision xid.now end segment.now clock.now }
-    ensures is_redo { IfSome result IsRedo }
+    ensures fits { IfSome result (FitsSegment segment.now) }
 {
     segment.always_is_segment();
     let head = segment.header();
