@@ -8,6 +8,8 @@ mod end;
 mod limits;
 mod made;
 mod parts;
+#[cfg(test)]
+mod tests;
 
 pub use ask::{ChangeAsk, Decision, Wish};
 pub use back::{BackTo, NextBack, block_to_take_back, decide_back, next_back};
