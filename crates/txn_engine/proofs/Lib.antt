@@ -1,0 +1,7 @@
+pub mod BackLemmas
+pub mod ChangeLemmas
+pub mod EndLemmas
+pub mod LimitLemmas
+pub mod PartLemmas
+pub mod RedoParts
+pub mod RingPlaces

@@ -1,0 +1,5 @@
+pub mod Back
+pub mod Change
+pub mod End
+pub mod Limits
+pub mod Parts
