@@ -2,6 +2,7 @@
 
 ghost use Rattle.std.specs.Prelude.{◌≡◌, ◌++◌, OnOk};
 ghost use Rattle.std.specs.List.{flat_map};
+ghost use Rattle.resource_dir.specs.Holders.{has_other_sharer};
 ghost use Rattle.resource_dir.specs.Asks.{answer, ask, cleared, clearing, go_on, granted, granting, invalidates, invalidates_to, is_clear, read_beside, serve, shared_from, shipped_from, stepped_out, written_beside};
 
 use crate::Outbox;

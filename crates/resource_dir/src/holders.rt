@@ -1,7 +1,7 @@
 //! Who holds a block, by its entry.
 
 ghost use Rattle.std.specs.Prelude.{◌≡◌};
-ghost use Rattle.resource_dir.specs.Holders.{first_sharer, has_other_sharer, is_granting, is_number, is_other_sharer, is_sharer, other_sharers, other_than, sharer_under, taken_out, under_other, unwaited};
+ghost use Rattle.resource_dir.specs.Holders.{first_sharer, has_other_sharer, is_granting, is_number, is_other_sharer, is_sharer, other_sharers, other_than, sharer_under, taken_out, under_other, unshared, unwaited};
 
 use base_types::InstNo;
 use wire_net::{ALL_INSTS, Entry, Grants, Holder, InstSet, Operation};
@@ -100,17 +100,26 @@ pub fn other_sharers(shared: &Grants, asker: InstNo) -> InstSet
 }
 
 // The operation without an instance among those for which it waits.
-fn unwaited(op: &Option<Operation>, inst: Option<InstNo>) -> Option<Operation>
-    ensures { result ≡ unwaited op.now inst }
+fn unwaited(op: &Option<Operation>, inst: &Option<InstNo>) -> Option<Operation>
+    ensures { result ≡ unwaited op.now inst.now }
 {
     let Some(op) = op else {
         return None;
     };
     let mut after = *op;
     if let Some(inst) = inst {
-        after.waits.remove(inst);
+        after.waits.remove(*inst);
     }
     Some(after)
+}
+
+// Takes the grant of an instance away, if one is named.
+fn unshare(shared: &mut Grants, inst: &Option<InstNo>)
+    ensures { shared.new ≡ unshared shared.old inst.now }
+{
+    if let Some(inst) = inst {
+        shared.set(*inst, None);
+    }
 }
 
 /// Takes the holder of a grant out, so that the operation doesn't wait for it any more.
@@ -119,10 +128,8 @@ pub fn take_out(entry: &mut Entry, grant: u64)
 {
     let sharer = sharer_under(&entry.shared, grant);
     entry.x = under_other(grant, &entry.x);
-    entry.op = unwaited(&entry.op, sharer);
-    if let Some(inst) = sharer {
-        entry.shared.set(inst, None);
-    }
+    entry.op = unwaited(&entry.op, &sharer);
+    unshare(&mut entry.shared, &sharer);
 }
 
 /// Whether an operation is under way for which this new grant was drawn.

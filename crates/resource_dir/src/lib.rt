@@ -8,11 +8,9 @@ mod ends;
 mod holders;
 mod pasts;
 mod takes;
-#[cfg(test)]
-mod tests;
 
-pub use directory::{Directory, rebuilt};
-pub use takes::{take, take_waits_for_somebody};
+pub use directory::Directory;
+pub use takes::{an_operation_is_held_up, messages_wait_for_an_operation, take};
 
 use base_types::InstNo;
 use wire_net::{Fifo, Message};

@@ -1,7 +1,8 @@
 //! What a master does with a message on a block.
 
 ghost use Rattle.std.specs.Prelude.{◌≡◌, ◌++◌, OnOk};
-ghost use Rattle.resource_dir.specs.Takes.{drain, hear_plea, react, take_up, takes};
+ghost use Rattle.resource_dir.specs.Laws.{IsHeldUp, WaitsFor};
+ghost use Rattle.resource_dir.specs.Takes.{drain, react, take_up, takes};
 
 use crate::Outbox;
 use crate::asks::{answer, ask};
@@ -86,3 +87,14 @@ pub fn take(entry: &mut Entry, message: &Message, out: &mut Outbox) -> Result<()
     react(entry, message, out)?;
     drain(entry, out)
 }
+
+/// A law: an operation that is under way after a message has its grant, or waits for somebody, if that was so before.
+pub fn an_operation_is_held_up(entry: &Entry, message: &Message)
+    requires { IsHeldUp entry.now.op }
+    ensures { IsHeldUp (takes entry.now message.now).entry.op }
+{}
+
+/// A law: after a message, others wait only where an operation is under way.
+pub fn messages_wait_for_an_operation(entry: &Entry, message: &Message)
+    ensures { WaitsFor (takes entry.now message.now).entry.op (takes entry.now message.now).entry }
+{}
