@@ -27,10 +27,11 @@ use Rattle.resource_dir.specs.Laws.{IsHeldUp, WaitsFor}
 -- somebody is in the set of all that pass a test where one passes it
 any-waits : {A : Type 0} (test : A → Bool) (xs : List A) → list_all (λ is_in. not is_in) (map test xs) ≡ not (list_any test xs)
 any-waits test [] = refl
-any-waits test (x ∷ xs) = go (test x) refl where
-  go : (passes : Bool) → test x ≡ passes → list_all (λ is_in. not is_in) (map test (x ∷ xs)) ≡ not (list_any test (x ∷ xs))
-  go true is = rw is refl
-  go false is = rw is (any-waits test xs)
+any-waits test (x ∷ xs) = go (test x) refl (any-waits test xs) where
+  go : (passes : Bool) → test x ≡ passes → list_all (λ is_in. not is_in) (map test xs) ≡ not (list_any test xs)
+      → list_all (λ is_in. not is_in) (map test (x ∷ xs)) ≡ not (list_any test (x ∷ xs))
+  go true is others = rw is refl
+  go false is others = rw is others
 
 waits-for-others : (shared : Grants) (asker : ℕ) → has_other_sharer shared asker ≡ true → is_empty (other_sharers shared asker) ≡ false
 waits-for-others shared asker others = any-waits (is_other_sharer shared asker) all_insts ∙ ap not others
@@ -77,9 +78,10 @@ held-busy : (op : Option Operation) (waits goes : Taken) → IsHeldUp waits.entr
 held-busy None waits goes up-waits up-goes = up-goes
 held-busy (Some op) waits goes up-waits up-goes = up-waits
 
-held-if : (test : Bool) (yes no : Taken) → IsHeldUp yes.entry.op → IsHeldUp no.entry.op → IsHeldUp (if test then yes else no).entry.op
-held-if true yes no up-yes up-no = up-yes
-held-if false yes no up-yes up-no = up-no
+held-if : (test : Bool) (passes fails : Taken) → IsHeldUp passes.entry.op → IsHeldUp fails.entry.op
+    → IsHeldUp (if test then passes else fails).entry.op
+held-if true passes fails up-passes up-fails = up-passes
+held-if false passes fails up-passes up-fails = up-fails
 
 held-ask : (block : ℕ) (mode held : Mode) (asker : ℕ) (entry : Entry) → IsHeldUp entry.op
     → IsHeldUp (ask block mode held asker entry).entry.op
@@ -192,17 +194,16 @@ none-waits : (op : Option Operation) (entry : Entry) → entry.queue ≡ [] → 
 none-waits None entry is = is
 none-waits (Some op) entry is = tt
 
+busy-waits : (op : Option Operation) (stays : Entry) (goes : Taken) → stays.op ≡ op → WaitsFor goes.entry.op goes.entry
+    → WaitsFor (where_busy op (silent stays) goes).entry.op (where_busy op (silent stays) goes).entry
+busy-waits None stays goes is others = others
+busy-waits (Some op) stays goes is others = let P : Option Operation → Type 0 = λ it. WaitsFor it stays in subst P (sym is) tt
+
 -- messages wait only for the end of an operation
 pub waits-drain_all : (waits : List Waiting) (entry : Entry)
     → WaitsFor (drain_all waits entry).entry.op (drain_all waits entry).entry
 waits-drain_all [] entry = none-waits entry.op (record entry { queue = [] }) refl
 waits-drain_all (first ∷ rest) entry =
-    go entry.op refl (waits-drain_all rest (take_up first (record entry { queue = rest })).entry) where
-  abbrev goes : Taken
-  goes = and_then (take_up first (record entry { queue = rest })) (drain_all rest)
-  abbrev stays : Entry
-  stays = record entry { queue = first ∷ rest }
-  go : (op : Option Operation) → entry.op ≡ op → WaitsFor goes.entry.op goes.entry
-      → WaitsFor (where_busy op (silent stays) goes).entry.op (where_busy op (silent stays) goes).entry
-  go None is others = others
-  go (Some op) is others = let P : Option Operation → Type 0 = λ it. WaitsFor it stays in subst P (sym is) tt
+    busy-waits entry.op (record entry { queue = first ∷ rest })
+    (and_then (take_up first (record entry { queue = rest })) (drain_all rest)) refl
+    (waits-drain_all rest (take_up first (record entry { queue = rest })).entry)

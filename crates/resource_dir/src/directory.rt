@@ -2,7 +2,7 @@
 
 ghost use Rattle.std.specs.Prelude.{◌≡◌, ◌++◌, ◌<◌, IfOk, None, OnOk, Some, is_some};
 ghost use Rattle.std.specs.Option.{option_copied};
-ghost use Rattle.resource_dir.specs.Directory.{bucket_of, bucket_takes, directory_takes, entry_of, is_quiet, no_buckets, with_bucket};
+ghost use Rattle.resource_dir.specs.Directory.{bucket_of, bucket_takes, directory_takes, entry_of, is_quiet, is_quiet_bucket, is_quiet_entry, no_buckets, with_bucket};
 
 use crate::Outbox;
 use crate::takes::take;
@@ -40,6 +40,23 @@ impl Bucket {
     }
 }
 
+// Whether no operation is under way at an entry and no message waits there.
+fn is_quiet_entry(entry: &Entry) -> bool
+    ensures { result ≡ is_quiet_entry entry.now }
+{
+    entry.op.is_none() && entry.queue.is_empty()
+}
+
+// Whether all entries of a bucket are quiet.
+fn is_quiet_bucket(bucket: &Option<Bucket>) -> bool
+    ensures { result ≡ is_quiet_bucket bucket.now }
+{
+    match bucket {
+        Some(bucket) => bucket.entries.iter().all(|entry| is_quiet_entry(entry)),
+        None => true,
+    }
+}
+
 /// The buckets that an instance masters, with the entries of their blocks.
 #[derive(Debug, Drop)]
 pub struct Directory {
@@ -64,7 +81,11 @@ impl Directory {
         ensures { result ≡ is_some (bucket_of self.now bucket) }
     {
         let place = usize::from(bucket);
-        place < 16 && self.buckets[place].is_some()
+        if place < 16 {
+            self.buckets[place].is_some()
+        } else {
+            false
+        }
     }
 
     /// The entry of a block; `None` where another instance is its master, and for a number that no data block has.
@@ -120,12 +141,6 @@ impl Directory {
     pub fn is_quiet(&self) -> bool
         ensures { result ≡ is_quiet self.now }
     {
-        self.buckets.iter().all(|bucket| match bucket {
-            Some(bucket) => bucket
-                .entries
-                .iter()
-                .all(|entry| entry.op.is_none() && entry.queue.is_empty()),
-            None => true,
-        })
+        self.buckets.iter().all(|bucket| is_quiet_bucket(bucket))
     }
 }

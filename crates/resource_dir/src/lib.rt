@@ -8,6 +8,8 @@ mod ends;
 mod holders;
 mod pasts;
 mod takes;
+#[cfg(test)]
+mod tests;
 
 pub use directory::Directory;
 pub use takes::{an_operation_is_held_up, messages_wait_for_an_operation, take};
