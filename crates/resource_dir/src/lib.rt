@@ -7,11 +7,13 @@ mod directory;
 mod ends;
 mod holders;
 mod pasts;
+mod reported;
 mod takes;
 #[cfg(test)]
 mod tests;
 
 pub use directory::Directory;
+pub use reported::{rebuild, rebuilt};
 pub use takes::{an_operation_is_held_up, messages_wait_for_an_operation, take};
 
 use base_types::InstNo;
