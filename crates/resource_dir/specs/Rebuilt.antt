@@ -1,5 +1,5 @@
 -- The directory after a change of membership, made from what the instances report.
-use Rattle.std.specs.Prelude.{ℕ, ◌+◌, ◌==◌, if◌then◌else◌, List, [], ◌∷◌, fold, Option, None, Some}
+use Rattle.std.specs.Prelude.{ℕ, ◌+◌, ◌==◌, if◌then◌else◌, List, [], ◌∷◌, fold, map, Option, None, Some}
 use Rattle.wire_net.specs.declared.message.Mode.{Mode}
 use Rattle.wire_net.specs.declared.message.Mode.TheVariants.{Null, Shared, Exclusive}
 use Rattle.wire_net.specs.declared.report.Frame.{Frame}
@@ -10,7 +10,7 @@ use Rattle.wire_net.specs.Entry.{empty_entry, with_grant, with_version}
 use Rattle.wire_net.specs.Masters.{all_buckets, master_of}
 use Rattle.resource_dir.specs.declared.directory.Directory.{Directory}
 use Rattle.resource_dir.specs.Holders.{grant_after}
-use Rattle.resource_dir.specs.Directory.{no_buckets, with_bucket}
+use Rattle.resource_dir.specs.Directory.{with_bucket}
 
 -- an instance holds the block in a mode, with the next grant
 abbrev pub held : Mode → ℕ → Entry → Entry
@@ -46,11 +46,14 @@ abbrev pub rebuilt_bucket : ℕ → List (ℕ × Report) → List Entry
 rebuilt_bucket bucket reports =
     rebuilt bucket reports ∷ rebuilt (bucket + 16) reports ∷ rebuilt (bucket + 32) reports ∷ rebuilt (bucket + 48) reports ∷ []
 
--- a bucket is made anew, if the instance masters it
+-- the entries of a bucket, if the instance masters it
+abbrev pub rebuilt_at : ℕ → Masters → List (ℕ × Report) → ℕ → Option (List Entry)
+rebuilt_at me masters reports bucket = if master_of masters bucket == me then Some (rebuilt_bucket bucket reports) else None
+
+-- a bucket is made anew
 abbrev pub with_rebuilt : ℕ → Masters → List (ℕ × Report) → Directory → ℕ → Directory
-with_rebuilt me masters reports it bucket =
-    if master_of masters bucket == me then with_bucket it bucket (Some (rebuilt_bucket bucket reports)) else it
+with_rebuilt me masters reports it bucket = with_bucket it bucket (rebuilt_at me masters reports bucket)
 
 -- the directory of an instance, with the buckets that it masters
 abbrev pub rebuilt_directory : ℕ → Masters → List (ℕ × Report) → Directory
-rebuilt_directory me masters reports = fold (with_rebuilt me masters reports) no_buckets all_buckets
+rebuilt_directory me masters reports = record { buckets = map (rebuilt_at me masters reports) all_buckets }

@@ -1,6 +1,7 @@
 //! The buckets of blocks that an instance masters.
 
 ghost use Rattle.std.specs.Prelude.{◌≡◌, ◌++◌, ◌<◌, IfOk, None, OnOk, Some, is_some};
+ghost use Rattle.std.specs.List.{list_all};
 ghost use Rattle.std.specs.Option.{option_copied};
 ghost use Rattle.resource_dir.specs.Directory.{bucket_of, bucket_takes, directory_takes, entry_of, is_quiet, is_quiet_bucket, is_quiet_entry, no_buckets, with_bucket};
 
@@ -38,6 +39,13 @@ impl Bucket {
         let entry = &mut self.entries[place];
         take(entry, message, out)
     }
+
+    // Whether all entries are quiet.
+    fn is_quiet(&self) -> bool
+        ensures { result ≡ list_all is_quiet_entry self.now }
+    {
+        self.entries.iter().all(|entry| is_quiet_entry(entry))
+    }
 }
 
 // Whether no operation is under way at an entry and no message waits there.
@@ -47,12 +55,12 @@ fn is_quiet_entry(entry: &Entry) -> bool
     entry.op.is_none() && entry.queue.is_empty()
 }
 
-// Whether all entries of a bucket are quiet.
+// Whether all entries of a bucket are quiet, if the instance masters it.
 fn is_quiet_bucket(bucket: &Option<Bucket>) -> bool
     ensures { result ≡ is_quiet_bucket bucket.now }
 {
     match bucket {
-        Some(bucket) => bucket.entries.iter().all(|entry| is_quiet_entry(entry)),
+        Some(bucket) => bucket.is_quiet(),
         None => true,
     }
 }
@@ -81,7 +89,7 @@ impl Directory {
         ensures { result ≡ is_some (bucket_of self.now bucket) }
     {
         let place = usize::from(bucket);
-        if place < 16 {
+        if place < self.buckets.len() {
             self.buckets[place].is_some()
         } else {
             false
@@ -137,10 +145,28 @@ impl Directory {
         }
     }
 
+    // Masters a bucket no more.
+    pub(crate) fn drop_bucket(&mut self, bucket: u8)
+        ensures { self.new ≡ with_bucket self.old bucket None }
+    {
+        let place = usize::from(bucket);
+        if place < 16 {
+            self.buckets[place] = None;
+        }
+    }
+
     /// Whether no operation is under way and no message waits.
     pub fn is_quiet(&self) -> bool
         ensures { result ≡ is_quiet self.now }
     {
         self.buckets.iter().all(|bucket| is_quiet_bucket(bucket))
     }
+}
+
+/// A law: a bucket that one instance sends and another one takes is there as it was, with what waits.
+pub fn a_bucket_moves_whole(from: &Directory, to: &Directory, bucket: u8)
+    requires { bucket < 16 }
+    ensures { bucket_of (with_bucket to.now bucket (bucket_of from.now bucket)) bucket ≡ bucket_of from.now bucket }
+{
+    let _there = to.has(bucket);
 }

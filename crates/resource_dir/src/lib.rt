@@ -12,7 +12,7 @@ mod takes;
 #[cfg(test)]
 mod tests;
 
-pub use directory::Directory;
+pub use directory::{Directory, a_bucket_moves_whole};
 pub use reported::{rebuild, rebuilt};
 pub use takes::{an_operation_is_held_up, messages_wait_for_an_operation, take};
 

@@ -94,7 +94,7 @@ fn rebuilt_bucket(
     Ok(DirEntries::from_vec(entries))
 }
 
-// Gives an instance those of these buckets that it masters, as the reports tell them.
+// Gives an instance those of these buckets that it masters, as the reports tell them, and takes the others away.
 fn rebuild_each(
     buckets: &[u8],
     alloc: Global,
@@ -108,6 +108,8 @@ fn rebuild_each(
     for bucket in buckets {
         if masters.of(BlockNo(u16::from(*bucket))).get() == me.get() {
             directory.take_bucket(*bucket, rebuilt_bucket(alloc, *bucket, reports)?);
+        } else {
+            directory.drop_bucket(*bucket);
         }
     }
     Ok(())
