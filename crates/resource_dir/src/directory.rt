@@ -88,11 +88,9 @@ impl Directory {
     pub fn has(&self, bucket: u8) -> bool
         ensures { result ≡ is_some (bucket_of self.now bucket) }
     {
-        let place = usize::from(bucket);
-        if place < self.buckets.len() {
-            self.buckets[place].is_some()
-        } else {
-            false
+        match self.buckets.as_slice().get(usize::from(bucket)) {
+            Some(bucket) => bucket.is_some(),
+            None => false,
         }
     }
 
@@ -164,9 +162,7 @@ impl Directory {
 }
 
 /// A law: a bucket that one instance sends and another one takes is there as it was, with what waits.
-pub fn a_bucket_moves_whole(from: &Directory, to: &Directory, bucket: u8)
+pub fn a_bucket_moves_whole(from: &mut Directory, to: &mut Directory, bucket: u8)
     requires { bucket < 16 }
-    ensures { bucket_of (with_bucket to.now bucket (bucket_of from.now bucket)) bucket ≡ bucket_of from.now bucket }
-{
-    let _there = to.has(bucket);
-}
+    ensures { bucket_of (with_bucket to.old bucket (bucket_of from.old bucket)) bucket ≡ bucket_of from.old bucket }
+{}
