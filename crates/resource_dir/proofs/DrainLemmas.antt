@@ -67,7 +67,7 @@ drain_all-busy : (waits : List Waiting) (op : Operation) (entry : Entry) → ent
 drain_all-busy [] op entry busy is = ap (λ (waits : List Waiting). silent (record entry { queue = waits })) (sym is)
 drain_all-busy (first ∷ rest) op entry busy is =
     ap (λ (it : Option Operation). where_busy it (silent (record entry { queue = first ∷ rest }))
-      (and_then (take_up first (record entry { queue = rest })) (drain_all rest))) busy
+    (and_then (take_up first (record entry { queue = rest })) (drain_all rest))) busy
     ∙ ap (λ (waits : List Waiting). silent (record entry { queue = waits })) (sym is)
 
 -- where an operation is under way nothing is taken up
@@ -87,7 +87,7 @@ drain-more first rest entry free is =
     let taken = take_up first (record entry { queue = rest }) in
     ap (λ (waits : List Waiting). drain_all waits entry) is
     ∙ (ap (λ (it : Option Operation). where_busy it (silent (record entry { queue = first ∷ rest }))
-      (and_then (take_up first (record entry { queue = rest })) (drain_all rest))) free
+    (and_then (take_up first (record entry { queue = rest })) (drain_all rest))) free
     ∙ ap (λ (waits : List Waiting). and_then taken (drain_all waits)) (sym (take_up-queue first (record entry { queue = rest }))))
 
 -- the first of a list, and the rest
@@ -143,7 +143,7 @@ pub turn-shorter : (before after : Entry) (waits : Waiting) (others : List Waiti
     → IsTurn before after waits others out out_after → length after.queue < length before.queue
 turn-shorter before after waits others out out_after turn =
     let was : length before.queue ≡ length others + 1 =
-      ap length (first-rest before.queue others waits turn.first turn.rest) ∙ omega arith in
+    ap length (first-rest before.queue others waits turn.first turn.rest) ∙ omega arith in
     let is : length after.queue ≡ length others =
-      ap (λ (it : Entry). length it.queue) turn.taken ∙ ap length (take_up-queue waits (record before { queue = others })) in
+    ap (λ (it : Entry). length it.queue) turn.taken ∙ ap length (take_up-queue waits (record before { queue = others })) in
     omega arith

@@ -94,6 +94,7 @@ held-go_on block entry = at entry.op refl where
   clear : (op : Operation) → entry.op ≡ Some op → (test : Bool) → is_clear op ≡ test → IsHeldUp (go_on_if test op block entry).entry.op
   clear op is true test-is = refl
   clear op is false test-is = let P : Option Operation → Type 0 = λ it. IsHeldUp it in subst P (sym is) test-is
+
   at : (it : Option Operation) → entry.op ≡ it → IsHeldUp (go_on_as it block entry).entry.op
   at None is = let P : Option Operation → Type 0 = λ it. IsHeldUp it in subst P (sym is) tt
   at (Some op) is = clear op is (is_clear op) refl

@@ -43,7 +43,7 @@ abbrev pub shared_from : Option ℕ → ℕ → ℕ → Mode → Entry → Taken
 shared_from None block asker held entry = granted block asker Shared held true entry
 shared_from (Some sharer) block asker held entry =
     telling (granting asker Shared held entry) sharer
-      (ShareTo block (unwrap_or (grant_of entry.shared sharer) 0) entry.next_grant asker)
+    (ShareTo block (unwrap_or (grant_of entry.shared sharer) 0) entry.next_grant asker)
 
 -- a reader gets a copy from another exclusive holder, else it shares the block
 abbrev pub read_beside : Option Holder → ℕ → ℕ → Mode → Entry → Taken

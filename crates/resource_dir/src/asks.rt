@@ -260,5 +260,13 @@ pub fn go_on(entry: &mut Entry, block: BlockNo, out: &mut Outbox) -> Result<(), 
         return Ok(());
     }
     let from_disk = !is_sharer(&entry.shared, op.asker);
-    grant_to(entry, block, op.asker, Mode::Exclusive, op.held, from_disk, out)
+    grant_to(
+        entry,
+        block,
+        op.asker,
+        Mode::Exclusive,
+        op.held,
+        from_disk,
+        out,
+    )
 }

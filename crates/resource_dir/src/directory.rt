@@ -106,7 +106,12 @@ impl Directory {
 
     /// Takes a message on a block to its master, and the messages that waited for it as far as they can be taken now. What
     /// is sent stands in `out` behind what stood there. Where another instance is the block's master it is dropped.
-    pub fn take(&mut self, block: BlockNo, message: &Message, out: &mut Outbox) -> Result<(), NoMemory>
+    pub fn take(
+        &mut self,
+        block: BlockNo,
+        message: &Message,
+        out: &mut Outbox,
+    ) -> Result<(), NoMemory>
         ensures directory { OnOk result (self.new ≡ (directory_takes self.old block message.now).directory) }
         ensures sends { OnOk result (out.new ≡ out.old ++ (directory_takes self.old block message.now).sends) }
     {

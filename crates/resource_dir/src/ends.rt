@@ -97,11 +97,7 @@ fn ask_anew(
 }
 
 /// Takes a message again that found no current image, after the holder that it names was taken out.
-pub fn hear_back(
-    entry: &mut Entry,
-    unfound: &Unfound,
-    out: &mut Outbox,
-) -> Result<(), NoMemory>
+pub fn hear_back(entry: &mut Entry, unfound: &Unfound, out: &mut Outbox) -> Result<(), NoMemory>
     ensures entry { OnOk result (entry.new ≡ (hear_back unfound.now entry.old).entry) }
     ensures sends { OnOk result (out.new ≡ out.old ++ (hear_back unfound.now entry.old).sends) }
 {

@@ -12,11 +12,10 @@ mod takes;
 #[cfg(test)]
 mod tests;
 
+use base_types::InstNo;
 pub use directory::{Directory, a_bucket_moves_whole};
 pub use reported::{rebuild, rebuilt};
 pub use takes::{an_operation_is_held_up, messages_wait_for_an_operation, take};
-
-use base_types::InstNo;
 use wire_net::{Fifo, Message};
 
 /// The messages that a master sends, each with the instance to which it goes, in their order.

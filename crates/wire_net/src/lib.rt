@@ -10,6 +10,8 @@ mod links;
 mod masters;
 mod message;
 mod report;
+#[cfg(test)]
+mod tests;
 
 pub use entry::{DirEntries, Entry, Grants, Holder, Operation, PastHolder, PastVersions};
 pub use fifo::Fifo;

@@ -1,6 +1,6 @@
-ghost use Rattle.std.specs.Prelude.{◌≡◌, ◌<◌, ◌∷◌, IfOk, OnOk, replicate, []};
+ghost use Rattle.std.specs.Prelude.{◌≡◌, ◌<◌, ◌∷◌, ◌++◌, IfOk, OnOk, [], drop};
 ghost use Rattle.std.specs.Option.{option_copied};
-ghost use Rattle.wire_net.specs.Links.{are_empty, first_on, no_packets, sent, place_of, taken};
+ghost use Rattle.wire_net.specs.Links.{are_empty, first_on, lane_for, no_packets, place_of, sent, taken, waiting_on};
 
 use crate::fifo::Fifo;
 use crate::message::{Lane, Packet};
@@ -102,5 +102,16 @@ impl Links {
         ensures { result ≡ are_empty self.now }
     {
         self.lanes.iter().all(|link| link.is_empty())
+    }
+
+    /// A law: packets come out of a link in the order in which they went in. What is sent waits behind the others of its
+    /// link, and what is taken is the first.
+    pub fn packets_keep_their_order(&self, from: InstNo, to: InstNo, lane: Lane, packet: &Packet)
+        requires from { from < 8 }
+        requires to { to < 8 }
+        ensures last { waiting_on (sent self.now from to packet.now) from to (lane_for packet.now.message) ≡ waiting_on self.now from to (lane_for packet.now.message) ++ packet.now ∷ [] }
+        ensures rest { waiting_on (taken self.now from to lane) from to lane ≡ drop 1 (waiting_on self.now from to lane) }
+    {
+        let _ = &self.lanes;
     }
 }
