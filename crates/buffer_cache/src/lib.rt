@@ -4,6 +4,8 @@
 mod cache;
 mod copy;
 mod place;
+#[cfg(test)]
+mod tests;
 
 pub use block_image::{DataBlock, RowChange};
 pub use cache::BufferCache;
