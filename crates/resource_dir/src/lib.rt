@@ -1,13 +1,21 @@
-// A library with one function.
+//! The directory: what the master of a block does with the messages on it, and the buckets of blocks that an instance
+//! masters.
 #![tactic(auto)]
 
-ghost use Rattle.std.specs.Prelude.{◌≡◌};
-ghost use Rattle.resource_dir.specs.Echo.{echo_of};
+mod asks;
+mod directory;
+mod ends;
+mod holders;
+mod pasts;
+mod takes;
+#[cfg(test)]
+mod tests;
 
-// The `ensures` clause is the contract: what `echo` returns is `echo_of` of its argument, a definition
-// in `specs/Echo.antt`, which a caller's clause can cite too.
-pub fn echo(x: usize) -> usize
-    ensures { result ≡ echo_of x }
-{
-    x
-}
+pub use directory::{Directory, rebuilt};
+pub use takes::{take, take_waits_for_somebody};
+
+use base_types::InstNo;
+use wire_net::{Fifo, Message};
+
+/// The messages that a master sends, each with the instance to which it goes, in their order.
+pub type Outbox = Fifo<(InstNo, Message)>;

@@ -6,7 +6,7 @@ use std::alloc::Global;
 use std::marker::Model;
 
 ghost use Rattle.std.specs.Prelude.{◌≡◌};
-ghost use Rattle.wire_net.specs.Entry.{empty_entry, grant_of, no_grants, no_versions, version_of, with_grant, with_version};
+ghost use Rattle.wire_net.specs.Entry.{above, empty_entry, grant_of, no_grants, no_versions, version_of, versions_above, with_grant, with_version};
 
 /// An instance that holds a block, with its grant.
 #[derive(Clone, Copy, Debug, PartialEq, Eq)]
@@ -85,6 +85,26 @@ impl PastVersions {
         if place < 8 {
             self.by_inst[place] = version;
         }
+    }
+
+    /// The versions that are above a limit.
+    pub fn above(&self, limit: u64) -> PastVersions
+        ensures { result ≡ versions_above self.now limit }
+    {
+        let at = |inst: u8| above(self.get(InstNo(inst)), limit);
+        PastVersions {
+            by_inst: [at(0), at(1), at(2), at(3), at(4), at(5), at(6), at(7)],
+        }
+    }
+}
+
+// A version, if it is above a limit.
+fn above(version: Option<u64>, limit: u64) -> Option<u64>
+    ensures { result ≡ above version limit }
+{
+    match version {
+        Some(number) if number > limit => Some(number),
+        _ => None,
     }
 }
 

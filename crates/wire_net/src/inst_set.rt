@@ -1,7 +1,19 @@
-ghost use Rattle.std.specs.Prelude.{◌≡◌, IsTrue, ◌↔◌};
-ghost use Rattle.wire_net.specs.InstSet.{has, is_empty, no_insts, with_inst, without_inst};
+ghost use Rattle.std.specs.Prelude.{◌≡◌, length};
+ghost use Rattle.wire_net.specs.InstSet.{count_below, has, is_empty, member_at, members, no_insts, with_inst, without_inst};
 
 use base_types::InstNo;
+
+/// The numbers of all instances.
+pub const ALL_INSTS: [InstNo; 8] = [
+    InstNo(0),
+    InstNo(1),
+    InstNo(2),
+    InstNo(3),
+    InstNo(4),
+    InstNo(5),
+    InstNo(6),
+    InstNo(7),
+];
 
 /// A set of instances. No instance has a number above 7, so such a number is in no set.
 #[derive(Clone, Copy, Debug, PartialEq, Eq)]
@@ -17,6 +29,13 @@ impl InstSet {
         InstSet {
             present: [false; 8],
         }
+    }
+
+    /// The set of the instances at whose places `true` stands.
+    pub fn from_array(present: [bool; 8]) -> InstSet
+        ensures { result.present ≡ present }
+    {
+        InstSet { present }
     }
 
     pub fn has(&self, inst: InstNo) -> bool
@@ -49,6 +68,30 @@ impl InstSet {
     pub fn is_empty(&self) -> bool
         ensures { result ≡ is_empty self.now }
     {
-        self.present == [false; 8]
+        self.present.iter().all(|is_in| !*is_in)
+    }
+
+    /// How many instances it has.
+    pub fn count(&self) -> usize
+        ensures { result ≡ length (members self.now) }
+    {
+        ALL_INSTS.iter().copied().filter(|inst| self.has(*inst)).count()
+    }
+
+    /// How many of its instances have a lower number than this one.
+    pub fn count_below(&self, inst: InstNo) -> usize
+        ensures { result ≡ count_below self.now inst }
+    {
+        ALL_INSTS.iter().copied().filter(|other| self.has(*other) && *other < inst).count()
+    }
+
+    /// The instance at a place, from 0, in the order of their numbers; `None` where there is none.
+    pub fn member(&self, place: usize) -> Option<InstNo>
+        ensures { result ≡ member_at self.now place }
+    {
+        ALL_INSTS
+            .iter()
+            .copied()
+            .find(|inst| self.has(*inst) && self.count_below(*inst) == place)
     }
 }

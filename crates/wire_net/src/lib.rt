@@ -14,7 +14,7 @@ mod report;
 pub use entry::{DirEntries, Entry, Grants, Holder, Operation, PastHolder, PastVersions};
 pub use fifo::Fifo;
 pub use image::CurrentImage;
-pub use inst_set::InstSet;
+pub use inst_set::{ALL_INSTS, InstSet};
 pub use links::Links;
 pub use masters::Masters;
 pub use message::{Lane, Message, Mode, Packet, Role, Shipment, UndoImage, Unfound, Waiting};

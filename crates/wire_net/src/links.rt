@@ -46,7 +46,7 @@ impl Links {
         ensures { IfOk result (λ links. links ≡ no_packets) }
     {
         let mut lanes = Vec::new(alloc);
-        for _ in 0..128 {
+        for _ in 0..128usize {
             lanes.push(Fifo::new(alloc))?;
         }
         Ok(Links { lanes })
