@@ -1,4 +1,6 @@
-ghost use Rattle.std.specs.Prelude.{◌≡◌, ◌≤◌, Some, None, IfOk, OnErr, OnOk, is_some, length, map, option_copied, option_map, replicate, unwrap_or};
+ghost use Rattle.std.specs.Prelude.{◌≡◌, ◌≤◌, Some, None, IfOk, OnErr, OnOk, is_some, length, map, nat_eq, option_copied, option_map, replicate, unwrap_or};
+ghost use Rattle.std.specs.List.{IsDistinct};
+ghost use Rattle.std.specs.Map.{keys_of};
 ghost use Rattle.std.specs.Option.{ForSome, option_and_then};
 ghost use Rattle.buffer_cache.specs.Place.{CanChange, clean_grant, empty_place, forgotten, given_up, held_of, holds_clean, holds_dirty, holds_shared, is_marked, read_from_disk, shareable, shipped, upgraded, with_ask, with_change, with_past_asked, with_wish, with_written, without_clean, without_grant, without_past, regranted};
 ghost use Rattle.buffer_cache.specs.Cache.{at_place, copy_at, empty_cache, forgets, free, installed, may_ask, place_at, position, taken, with_copy, with_copy_used, without_copy};
@@ -362,6 +364,15 @@ impl BufferCache {
             self.copies.promote(&b.get());
         }
         serves
+    }
+
+    /// How many copies are kept: at most one of a block, and at most as many as there are frames.
+    pub fn copy_count(&self) -> usize
+        ensures count { result ≡ length self.now.copies }
+        ensures few { result ≤ self.now.frames }
+        ensures one_each { IsDistinct nat_eq (keys_of self.now.copies) }
+    {
+        self.copies.len()
     }
 
     /// Drops the kept copy of a block.

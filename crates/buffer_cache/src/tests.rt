@@ -100,23 +100,39 @@ fn a_past_image_takes_a_frame(rt: HostRuntime) -> Result<(), Fail> {
     Ok(())
 }
 
-#[test]
-fn a_dirty_image_stays_as_past(rt: HostRuntime) -> Result<(), Fail> {
-    let mut cache = BufferCache::new(rt.alloc(), 4, 8).ok().ok_or("memory")?;
-    hold_changed(&mut cache, FIRST, RedoAt(90), RedoAt(95));
-    let held = Held {
+// As `hold_changed` leaves it with the first record at 90.
+fn held_changed() -> Held {
+    Held {
         mode: Mode::Exclusive,
         role: Role::Local,
         dirty: true,
         mine: Some(RedoAt(90)),
         grant: 1,
         version: 2,
-    };
-    assert_eq!(rt; cache.held(FIRST), Some(held));
+    }
+}
+
+// A block that no record touched.
+fn held_as(mode: Mode, role: Role, dirty: bool, grant: u64) -> Held {
+    Held {
+        mode,
+        role,
+        dirty,
+        mine: None,
+        grant,
+        version: 0,
+    }
+}
+
+#[test]
+fn a_dirty_image_stays_as_past(rt: HostRuntime) -> Result<(), Fail> {
+    let mut cache = BufferCache::new(rt.alloc(), 4, 8).ok().ok_or("memory")?;
+    hold_changed(&mut cache, FIRST, RedoAt(90), RedoAt(95));
+    assert_eq!(rt; cache.held(FIRST), Some(held_changed()));
     let current = cache.give_up(FIRST).ok_or("nothing is given up")?;
     assert_eq!(rt;
         (current.held(), current.image.image().row(0)),
-        (held, Value::Num(7))
+        (held_changed(), Value::Num(7))
     );
     assert_eq!(rt;
         (cache.held(FIRST), cache.give_up(FIRST).is_some()),
@@ -158,14 +174,6 @@ fn shipments_are_held(rt: HostRuntime) -> Result<(), Fail> {
     for (shared, dirty, mode, role) in table {
         let mut cache = BufferCache::new(rt.alloc(), 4, 8).ok().ok_or("memory")?;
         cache.install(shipment(6, shared, dirty));
-        let mut held = Held {
-            mode,
-            role,
-            dirty,
-            mine: None,
-            grant: 6,
-            version: 0,
-        };
         assert_eq!(rt; cache.held(FIRST), Some(held));
         assert_eq!(rt;
             (cache.is_dirty(FIRST), cache.is_clean(FIRST)),
@@ -173,9 +181,7 @@ fn shipments_are_held(rt: HostRuntime) -> Result<(), Fail> {
         );
         assert_eq!(rt; cache.share(FIRST).is_some(), shared);
         cache.regrant(FIRST, 8, Role::Global);
-        held.grant = 8;
-        held.role = Role::Global;
-        assert_eq!(rt; cache.held(FIRST), Some(held));
+        assert_eq!(rt; cache.held(FIRST), Some(held_as(mode, Role::Global, dirty, 8)));
     }
     Ok(())
 }
@@ -187,17 +193,9 @@ fn images_are_written_and_dropped(rt: HostRuntime) -> Result<(), Fail> {
     cache.wish(FIRST);
     assert_eq!(rt; (cache.is_wished(FIRST), cache.evict(FIRST)), (true, None));
     cache.wrote(FIRST);
-    let held = Held {
-        mode: Mode::Exclusive,
-        role: Role::Local,
-        dirty: false,
-        mine: None,
-        grant: 6,
-        version: 0,
-    };
     assert_eq!(rt;
         (cache.is_wished(FIRST), cache.held(FIRST)),
-        (false, Some(held))
+        (false, Some(held_as(Mode::Exclusive, Role::Local, false, 6)))
     );
     cache.invalidate(FIRST, 5);
     assert_eq!(rt; cache.image(FIRST).map(|block| block.number()), Some(FIRST));
