@@ -174,14 +174,17 @@ fn shipments_are_held(rt: HostRuntime) -> Result<(), Fail> {
     for (shared, dirty, mode, role) in table {
         let mut cache = BufferCache::new(rt.alloc(), 4, 8).ok().ok_or("memory")?;
         cache.install(shipment(6, shared, dirty));
-        assert_eq!(rt; cache.held(FIRST), Some(held));
+        assert_eq!(rt; cache.held(FIRST), Some(held_as(mode, role, dirty, 6)));
         assert_eq!(rt;
             (cache.is_dirty(FIRST), cache.is_clean(FIRST)),
             (dirty, !dirty)
         );
         assert_eq!(rt; cache.share(FIRST).is_some(), shared);
         cache.regrant(FIRST, 8, Role::Global);
-        assert_eq!(rt; cache.held(FIRST), Some(held_as(mode, Role::Global, dirty, 8)));
+        assert_eq!(rt;
+            cache.held(FIRST),
+            Some(held_as(mode, Role::Global, dirty, 8))
+        );
     }
     Ok(())
 }
