@@ -1,5 +1,5 @@
 -- What an instance has of all data blocks, and what becomes of it.
-use Rattle.std.specs.Prelude.{ℕ, ◌-◌, Bool, List, [], ◌∷◌, ◌++◌, Option, Some, None, ◌||◌, fold, map, min, is_some, nat_eq, nat_le, nat_lt, option_map, replicate, slice_index_or, slice_set, sum_by}
+use Rattle.std.specs.Prelude.{ℕ, ◌-◌, Bool, List, [], ◌++◌, Option, Some, None, ◌||◌, fold, map, min, is_some, nat_eq, nat_le, nat_lt, replicate, slice_index_or, slice_set, sum_by}
 use Rattle.std.specs.Bool.{if◌then◌else◌}
 use Rattle.std.specs.List.{flat_map}
 use Rattle.std.specs.Map.{lookup, remove_entry}
