@@ -1,0 +1,3 @@
+pub mod Clock
+pub mod Insts
+pub mod Broadcast
