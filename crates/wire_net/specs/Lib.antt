@@ -1,0 +1,4 @@
+pub mod Entry
+pub mod InstSet
+pub mod Links
+pub mod Masters
