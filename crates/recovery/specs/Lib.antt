@@ -1,2 +1,6 @@
+pub mod Base
+pub mod Members
 pub mod Parts
+pub mod RecoverySet
+pub mod Reports
 pub mod Roll

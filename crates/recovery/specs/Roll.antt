@@ -1,5 +1,5 @@
 -- What redo makes of an older image of a block.
-use Rattle.std.specs.Prelude.{ℕ, ◌+◌, ◌-◌, ◌^◌, ◌==◌, ◌&&◌, ◌||◌, nat_le, nat_lt, Bool, if◌then◌else◌, List, [], ◌∷◌, Option, None, Some, option_and_then}
+use Rattle.std.specs.Prelude.{◌≡◌, ℕ, ◌+◌, ◌^◌, ◌==◌, ◌&&◌, ◌||◌, nat_le, nat_lt, Bool, true, if◌then◌else◌, List, [], ◌∷◌, Option, None, Some, option_and_then}
 use Rattle.std.specs.List.{list_all}
 use Rattle.redo_types.specs.declared.blocks.ItlSlot.{ItlSlot}
 use Rattle.redo_types.specs.declared.blocks.RowChange.{RowChange}
@@ -84,3 +84,24 @@ undo_rolled_by redo u = undo_after redo.undo redo.scn u
 abbrev pub rolled : {B : Type 0} → (Redo → B → Option B) → List Tagged → B → Option B
 rolled by [] b = Some b
 rolled by (it ∷ its) b = option_and_then (rolled by its) (by it.redo b)
+
+-- a data block after a change of some data block, if there is one
+abbrev pub applied_if : BlockContent → Option DataChange → ℕ → BlockContent
+applied_if b None scn = b
+applied_if b (Some change) scn = applied b change.to scn
+
+-- a data block after the changes of records, one applied after the other
+abbrev pub all_applied : BlockContent → List Tagged → BlockContent
+all_applied b [] = b
+all_applied b (it ∷ its) = all_applied (applied_if b it.redo.row it.redo.scn) its
+
+-- A change is one of this data block, of the next version, and can be made.
+abbrev pub IsNextChange : BlockContent → Option DataChange → ℕ → Type 0
+IsNextChange b None scn = ⊥
+IsNextChange b (Some change) scn =
+    (change.block ≡ b.front.number) × (is_next b.front.version change.version ≡ true) × (can_change b change.to scn ≡ true)
+
+-- Records change a data block one after the other, each from the version before.
+abbrev pub AreNext : BlockContent → List Tagged → Type 0
+AreNext b [] = Unit {0}
+AreNext b (it ∷ its) = IsNextChange b it.redo.row it.redo.scn × AreNext (applied_if b it.redo.row it.redo.scn) its
