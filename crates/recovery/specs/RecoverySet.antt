@@ -28,10 +28,14 @@ changes_segment_by (Some change) block disk = change.block == block && nat_lt di
 abbrev pub changes_segment : Redo → ℕ → ℕ → Bool
 changes_segment redo block disk = (redo.head.block == block && nat_lt disk redo.head.version) || changes_segment_by redo.undo block disk
 
+-- One of these records makes a version of this data block that is later than the disk's.
+abbrev pub some_changes_data : List Tagged → ℕ → ℕ → Bool
+some_changes_data lost block disk = list_any (λ it. changes_data it.redo block disk) lost
+
 -- A data block is to be rebuilt where nobody has a current image, and a past image or a later record is there.
 abbrev pub is_data_to_recover : Reports → List Tagged → ℕ → ℕ → Bool
 is_data_to_recover reports lost block disk =
-    not (is_held reports block) && (has_past reports block || list_any (λ it. changes_data it.redo block disk) lost)
+    not (is_held reports block) && (has_past reports block || some_changes_data lost block disk)
 
 -- A header or undo block is to be rebuilt where a later record is there.
 abbrev pub is_segment_to_recover : List Tagged → ℕ → ℕ → Bool

@@ -9,15 +9,15 @@ use Rattle.recovery.specs.declared.reports.Reports.{Reports}
 
 -- nobody has reported
 abbrev pub no_reports : Reports
-no_reports = record { by_inst = replicate 8 None }
+no_reports = replicate 8 None
 
 -- what an instance reported
 abbrev pub report_of : Reports → ℕ → Option Report
-report_of reports inst = slice_index_or reports.by_inst inst None
+report_of reports inst = slice_index_or reports inst None
 
 -- the reports with another one of an instance
 abbrev pub with_report : Reports → ℕ → Report → Reports
-with_report reports inst report = record { by_inst = slice_set reports.by_inst inst (Some report) }
+with_report reports inst report = slice_set reports inst (Some report)
 
 -- what a report, if there is one, says of a block
 abbrev pub frame_of : Option Report → ℕ → Option Frame
@@ -42,11 +42,15 @@ past_in (Some frame) = frame.past
 
 -- Some instance reported a current image of a block.
 abbrev pub is_held : Reports → ℕ → Bool
-is_held reports block = list_any (λ report. is_current (frame_of report block)) reports.by_inst
+is_held reports block = list_any (λ report. is_current (frame_of report block)) reports
+
+-- the version of the past image of a block that a report, if there is one, tells of
+abbrev pub past_of : Option Report → ℕ → Option ℕ
+past_of report block = past_in (frame_of report block)
 
 -- the version of each instance's past image of a block
 abbrev pub pasts_of : Reports → ℕ → List (Option ℕ)
-pasts_of reports block = map (λ report. past_in (frame_of report block)) reports.by_inst
+pasts_of reports block = map (λ report. past_of report block) reports
 
 -- Some instance reported a past image of a block.
 abbrev pub has_past : Reports → ℕ → Bool

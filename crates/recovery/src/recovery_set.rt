@@ -1,6 +1,6 @@
 ghost use Rattle.std.specs.Prelude.{◌≡◌, IfOk};
 ghost use Rattle.base_types.specs.Layout.{IsLayout};
-ghost use Rattle.recovery.specs.RecoverySet.{blocks_to_recover, changes_data, changes_data_by, changes_segment, changes_segment_by, is_data_to_recover, is_segment_to_recover, is_to_recover, version_at};
+ghost use Rattle.recovery.specs.RecoverySet.{blocks_to_recover, changes_data, changes_data_by, changes_segment, changes_segment_by, is_data_to_recover, is_segment_to_recover, is_to_recover, some_changes_data, version_at};
 
 use crate::reports::Reports;
 use base_types::{BlockNo, Layout, NoMemory, Sequence};
@@ -52,8 +52,14 @@ pub fn is_to_recover(
 fn is_data_to_recover(reports: &Reports, lost: &[Tagged], block: BlockNo, disk: u64) -> bool
     ensures { result ≡ is_data_to_recover reports.now lost.now block disk }
 {
-    !reports.is_held(block)
-        && (reports.has_past(block) || lost.iter().any(|it| changes_data(&it.redo, block, disk)))
+    !reports.is_held(block) && (reports.has_past(block) || some_changes_data(lost, block, disk))
+}
+
+// Whether one of these records changes a data block to a later version than this.
+fn some_changes_data(lost: &[Tagged], block: BlockNo, disk: u64) -> bool
+    ensures { result ≡ some_changes_data lost.now block disk }
+{
+    lost.iter().any(|it| changes_data(&it.redo, block, disk))
 }
 
 fn is_segment_to_recover(lost: &[Tagged], block: BlockNo, disk: u64) -> bool

@@ -1,9 +1,10 @@
-ghost use Rattle.std.specs.Prelude.{◌≡◌, option_copied};
+ghost use Rattle.std.specs.Prelude.{◌≡◌, ◌==◌, ◌<◌, find, length, option_copied};
 ghost use Rattle.recovery.specs.Base.{newest_past};
-ghost use Rattle.recovery.specs.Reports.{frame_of, has_past, is_current, is_held, no_reports, past_in, pasts_of, report_of, with_report};
+ghost use Rattle.recovery.specs.Reports.{frame_of, has_past, is_current, is_held, no_reports, past_in, past_of, pasts_of, report_of, with_report};
 
 use crate::base::newest_past;
 use base_types::{BlockNo, InstNo};
+use std::marker::Model;
 use wire_net::{Frame, Mode, Report};
 
 /// What the instances have reported since the last change of the membership, at most one report each. No instance has a
@@ -11,6 +12,17 @@ use wire_net::{Frame, Mode, Report};
 #[derive(Debug, Drop)]
 pub struct Reports {
     by_inst: [Option<Report>; 8],
+}
+
+impl Model for Reports {
+    ghost use Rattle.std.specs.Prelude.{◌≡◌, List, Option, length};
+    ghost use Rattle.wire_net.specs.declared.report.Report.{Report};
+
+    ghost Value = { List (Option Report) };
+
+    ghost view = { λ it. it.by_inst };
+
+    ghost invariant = { λ it. length it.by_inst ≡ 8 };
 }
 
 impl Reports {
@@ -72,17 +84,31 @@ impl Reports {
     pub fn pasts_of(&self, block: BlockNo) -> [Option<u64>; 8]
         ensures { result ≡ pasts_of self.now block }
     {
-        let [a, b, c, d, e, f, g, h] = &self.by_inst;
+        self.are_of_eight();
         [
-            past_in(frame_of(a, block)),
-            past_in(frame_of(b, block)),
-            past_in(frame_of(c, block)),
-            past_in(frame_of(d, block)),
-            past_in(frame_of(e, block)),
-            past_in(frame_of(f, block)),
-            past_in(frame_of(g, block)),
-            past_in(frame_of(h, block)),
+            self.past_at(0, block),
+            self.past_at(1, block),
+            self.past_at(2, block),
+            self.past_at(3, block),
+            self.past_at(4, block),
+            self.past_at(5, block),
+            self.past_at(6, block),
+            self.past_at(7, block),
         ]
+    }
+
+    // There always are the places of eight instances.
+    fn are_of_eight(&self)
+        ensures { length self.now ≡ 8 }
+    {
+        let _all = &self.by_inst;
+    }
+
+    fn past_at(&self, place: usize, block: BlockNo) -> Option<u64>
+        requires { place < 8 }
+        ensures { result ≡ past_of (report_of self.now place) block }
+    {
+        past_in(frame_of(&self.by_inst[place], block))
     }
 
     /// The instance that reported the newest past image of a block; of several the lowest.
@@ -99,12 +125,14 @@ fn frame_of(report: &Option<Report>, block: BlockNo) -> Option<&Frame>
 {
     match report {
         None => None,
-        Some(report) => report
-            .frames
-            .as_slice()
-            .iter()
-            .find(|frame| frame.block.get() == block.get()),
+        Some(report) => frame_in(report.frames.as_slice(), block),
     }
+}
+
+fn frame_in(frames: &[Frame], block: BlockNo) -> Option<&Frame>
+    ensures { option_copied result ≡ find (λ frame. frame.block == block) frames.now }
+{
+    frames.iter().find(|frame| frame.block.get() == block.get())
 }
 
 // Whether this says that there is a current image.
