@@ -5,4 +5,6 @@ pub mod Handed
 pub mod Begin
 pub mod Apply
 pub mod Dirty
+pub mod New
+pub mod Faults
 pub mod Load

@@ -19,9 +19,13 @@ pub record SegmentState : Type 0 where
   pub blocks : List UndoContent
   pub since : List (Option ℕ)
 
+-- the undo block at this place
+abbrev pub block_in : List UndoContent → ℕ → UndoContent
+block_in blocks k = slice_index_or blocks k (empty_undo_block 0 0)
+
 -- the undo block at this place in the ring
 abbrev pub ring_block : SegmentState → ℕ → UndoContent
-ring_block own k = slice_index_or own.blocks k (empty_undo_block 0 0)
+ring_block own k = block_in own.blocks k
 
 -- since when the header, or the block before the next place in the ring, is dirty
 abbrev pub since_at : SegmentState → ℕ → Option ℕ

@@ -2,11 +2,16 @@
 //! tell of transactions, and what redo does to them.
 #![tactic(auto)]
 
+mod error;
+mod faults;
 mod fetch;
 mod handed;
+mod load;
 mod look;
 mod segment;
+mod table;
 
+pub use error::LoadError;
 pub use fetch::Fetch;
 pub use handed::Handed;
 pub use look::Look;

@@ -1,19 +1,21 @@
-ghost use Rattle.std.specs.Prelude.{◌≡◌, ◌<◌, ◌≤◌, ◌-◌, ◌/◌, ◌^◌, fold, option_copied, IfSome};
+ghost use Rattle.std.specs.Prelude.{◌≡◌, ◌<◌, ◌≤◌, ◌-◌, ◌/◌, ◌^◌, fold, option_copied, IfOk, IfSome};
 ghost use Rattle.base_types.specs.Layout.{segment_blocks, undo_block_of};
 ghost use Rattle.std.specs.List.{list_all, position};
 ghost use Rattle.redo_record.specs.Redo.{IsHeadChange, IsRedo, IsUndoChange};
 ghost use Rattle.undo_segment.specs.Apply.{applied, dirtied, head_applied, ring_place, undo_applied, version_of};
 ghost use Rattle.undo_segment.specs.Dirty.{bytes_of, cleaned, earlier, first_dirty, is_dirty};
 ghost use Rattle.undo_segment.specs.Begin.{active_count, began_first, began_no_later, ended_first, ended_no_later, next_xid, oldest, room};
+ghost use Rattle.undo_segment.specs.New.{clean_segment};
 ghost use Rattle.undo_segment.specs.Segment.{IsSegment, fetch, fetch_own, header_for, look, own_block_for, ring_block, undo_block_for};
 
 use crate::fetch::{Fetch, fetch_in};
 use crate::handed::Handed;
 use crate::look::{Look, is_active, look_in};
-use base_types::{BlockNo, InstNo, Layout, RedoAt, Scn, Xid};
+use crate::table::slots_of;
+use base_types::{BlockNo, InstNo, Layout, NoMemory, RedoAt, Scn, Xid};
 use redo_types::{HeadChange, Redo, UndoChange};
+use std::alloc::Global;
 use std::marker::Model;
-use thiserror::Error;
 use undo_image::{TxnSlot, UndoBlock, UndoHeader};
 
 /// A segment has no room for an undo record: that with the number `next` would take the place of one from `first` on,
@@ -36,7 +38,8 @@ pub struct Segment {
 }
 
 impl Model for Segment {
-    ghost use Rattle.undo_segment.specs.Segment.{IsSegment, SegmentState};
+    ghost use Rattle.undo_segment.specs.New.{clean_segment};
+ghost use Rattle.undo_segment.specs.Segment.{IsSegment, SegmentState};
 
     ghost Value = { SegmentState };
 
@@ -46,6 +49,25 @@ impl Model for Segment {
 }
 
 impl Segment {
+    // A segment of these blocks, all clean.
+    pub(crate) fn clean(
+        alloc: Global,
+        layout: &Layout,
+        head: UndoHeader,
+        blocks: Vec<UndoBlock>,
+    ) -> Result<Segment, NoMemory>
+        requires { IsSegment (clean_segment layout.now head blocks.items) }
+        ensures { IfOk result (λ it. it ≡ clean_segment layout.now head blocks.items) }
+    {
+        let since = vec![in alloc; None; 1 + blocks.len()]?;
+        Ok(Segment {
+            layout: *layout,
+            head,
+            blocks,
+            since,
+        })
+    }
+
     /// A law: a segment always is one.
     pub fn always_is_segment(&self)
         ensures { IsSegment self.now }
@@ -134,7 +156,7 @@ impl Segment {
     pub fn begin(&self) -> Option<Xid>
         ensures { result ≡ next_xid self.now }
     {
-        let slots = self.slots();
+        let slots = slots_of(&self.head);
         let slot = next_slot(&slots)?;
         Some(Xid {
             seg: self.head.seg(),
@@ -149,7 +171,7 @@ impl Segment {
         ensures { result ≡ room self.now }
     {
         let next = self.head.next();
-        match oldest(&self.slots()) {
+        match oldest(&slots_of(&self.head)) {
             Some(slot) if next.saturating_sub(slot.first) >= u64::from(self.layout.undo) => {
                 Err(UndoFull {
                     first: slot.first,
@@ -165,7 +187,7 @@ impl Segment {
         ensures count { result ≡ active_count self.now }
         ensures few { result ≤ 8 }
     {
-        self.slots()
+        slots_of(&self.head)
             .iter()
             .filter(|slot| is_active(slot.state))
             .count() as u8
@@ -258,24 +280,6 @@ impl Segment {
         } else {
             self.blocks[usize::from(k) - 1].write(out);
         }
-    }
-
-    // The slots of the transaction table.
-    fn slots(&self) -> [TxnSlot; 8]
-        ensures { result ≡ self.now.head.slots }
-    {
-        let head = &self.head;
-        head.always_is_header();
-        [
-            head.slot(0),
-            head.slot(1),
-            head.slot(2),
-            head.slot(3),
-            head.slot(4),
-            head.slot(5),
-            head.slot(6),
-            head.slot(7),
-        ]
     }
 }
 
