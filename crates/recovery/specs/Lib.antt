@@ -1,4 +1,5 @@
 pub mod Base
+pub mod Dead
 pub mod Members
 pub mod Parts
 pub mod RecoverySet

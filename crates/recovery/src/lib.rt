@@ -2,6 +2,7 @@
 #![tactic(auto)]
 
 mod base;
+mod dead;
 mod fitting;
 mod laws;
 mod members;
@@ -13,6 +14,7 @@ mod roll;
 mod tests;
 
 pub use base::{Base, choose_base, newest_past};
+pub use dead::{NextBack, next_back};
 pub use laws::{rolling_applies_each, rolling_goes_on};
 pub use members::{Membership, Phase};
 pub use recovery_set::{blocks_to_recover, is_to_recover};
