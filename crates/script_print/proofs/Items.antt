@@ -1,8 +1,7 @@
 -- The line of an item says the item.
-use Rattle.std.proofs.Common.{◌≡◌, ◌≢◌, ◌∙◌, ℕ, ℤ, suc, zero, ◌+◌, ◌*◌, ◌^◌, ◌<◌, ◌≤◌, Bool, true, false, cond, not, ◌&&◌, ◌||◌, ◌==◌, nat_lt, nat_le, List, [], ◌∷◌, ◌++◌, length, take, get_or, slice_get, Option, Some, None, Result, Ok, codes, refl, ap, sym, subst, arith, append_assoc, lit≤}
+use Rattle.std.proofs.Common.{◌≡◌, ◌≢◌, ◌∙◌, ℕ, ℤ, suc, zero, ◌+◌, ◌*◌, ◌^◌, ◌<◌, ◌≤◌, true, false, ◌&&◌, ◌==◌, nat_lt, nat_le, List, [], ◌∷◌, ◌++◌, length, take, slice_get, Some, Ok, codes, refl, ap, sym, arith, lit≤}
 use Rattle.std.specs.Fmt.{decimal, signed_decimal}
 use Rattle.std.specs.List.{AllByRecursion, list_all, list_any}
-use Rattle.std.specs.Str.{bytes_eq}
 use Rattle.std.proofs.lemmas.Bool.Decides.{nat_tests}
 use Rattle.std.proofs.lemmas.Grind.{common_steps}
 use Rattle.base_types.specs.declared.value.Value.{Value}
@@ -15,18 +14,18 @@ use Rattle.script_text.specs.declared.item.Stmt.TheVariants as statements
 use Rattle.script_text.specs.declared.script.Settings.{Settings}
 use Rattle.script_print.proofs.SaidType.{Said}
 use Rattle.script_text.specs.Clashes.{clashes}
-use Rattle.script_text.specs.Forms.{Row, is_apart, with_item, is_open, is_one_inst, session_number, statement_line, row_line}
+use Rattle.script_text.specs.Forms.{with_item, is_open, is_one_inst, session_number}
 use Rattle.script_text.specs.Forms.{session_line, get_line, scan_line, put_line, add_line, del_line, lock_line}
 use Rattle.script_text.specs.Forms.{commit_line, rollback_line, savepoint_line, rollback_to_line, crash_after_line, crash_mark_line, start_line, remaster_line, checkpoint_line, hold_line}
 use Rattle.script_text.specs.Reading.{settings_of}
-use Rattle.script_text.specs.Rules.{counted, judged_words, line_read}
+use Rattle.script_text.specs.Rules.{judged_words}
 use Rattle.script_text.specs.ScriptParts.{ScriptParts}
-use Rattle.script_text.specs.Spelling.{is, is_name}
+use Rattle.script_text.specs.Spelling.{is_name}
 use Rattle.script_text.specs.WellFormed.{AreSettings, HasRowsBelow, IsItemWithin, IsKeep, IsOpened, opened_after}
-use Rattle.script_print.specs.Spelled.{item_words, keep_word, name_of, spaced, statement_words}
+use Rattle.script_print.specs.Spelled.{item_words, keep_word, name_of, statement_words}
 use Rattle.script_print.proofs.Names.{AreNames, IsLabelOf, label-of, open-found, short-name}
 use Rattle.script_print.proofs.Numbers.{IsSigned, is_keep-word, is_number-decimal, is_signed_number-decimal, keep_of-word, number-decimal, signed_number-decimal, word-decimal, word-keep, word-signed}
-use Rattle.script_print.proofs.Rows.{Keeps, judged-keeps, line_read-spaced}
+use Rattle.script_print.proofs.Rows.{judged-keeps}
 use Rattle.script_print.proofs.Texts.{IsWord, is_visible}
 
 -- the number that is put is one of 64 bits
@@ -197,8 +196,18 @@ module _ (parts : ScriptParts) (spelled : IsSpelledScript parts) (opened : ℕ) 
     commit-said : judged_words said (label ∷ codes "commit" ∷ []) ≡ Ok (with_item said (items.Stmt session statements.Commit))
     unfolding judged_words commit_line
     commit-said =
-        rw (lab.no_note, lab.other (codes "instances") refl, lab.other (codes "blocks") refl, lab.other (codes "undo") refl, lab.other (codes "cache") refl,
-        lab.other (codes "seed") refl, lab.other (codes "start") refl, lab.other (codes "checkpoint") refl, lab.is_label, lab.name_is)
+        rw (
+          lab.no_note,
+          lab.other (codes "instances") refl,
+          lab.other (codes "blocks") refl,
+          lab.other (codes "undo") refl,
+          lab.other (codes "cache") refl,
+          lab.other (codes "seed") refl,
+          lab.other (codes "start") refl,
+          lab.other (codes "checkpoint") refl,
+          lab.is_label,
+          lab.name_is,
+        )
         (judged-keeps (commit_line said name) (record {
           names = rw formed refl;
           spelled = refl;
@@ -211,8 +220,18 @@ module _ (parts : ScriptParts) (spelled : IsSpelledScript parts) (opened : ℕ) 
     rollback-said : judged_words said (label ∷ codes "rollback" ∷ []) ≡ Ok (with_item said (items.Stmt session statements.Rollback))
     unfolding judged_words rollback_line
     rollback-said =
-        rw (lab.no_note, lab.other (codes "instances") refl, lab.other (codes "blocks") refl, lab.other (codes "undo") refl, lab.other (codes "cache") refl,
-        lab.other (codes "seed") refl, lab.other (codes "start") refl, lab.other (codes "checkpoint") refl, lab.is_label, lab.name_is)
+        rw (
+          lab.no_note,
+          lab.other (codes "instances") refl,
+          lab.other (codes "blocks") refl,
+          lab.other (codes "undo") refl,
+          lab.other (codes "cache") refl,
+          lab.other (codes "seed") refl,
+          lab.other (codes "start") refl,
+          lab.other (codes "checkpoint") refl,
+          lab.is_label,
+          lab.name_is,
+        )
         (judged-keeps (rollback_line said name) (record {
           names = rw formed refl;
           spelled = refl;

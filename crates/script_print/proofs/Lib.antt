@@ -7,3 +7,4 @@ pub mod Items
 pub mod SettingLines
 pub mod ReadBack
 pub mod Printable
+pub mod Examples

@@ -1,16 +1,14 @@
 -- A script that a text reads as can be printed.
-use Rattle.std.proofs.Common.{◌≡◌, ◌⊎◌, inl, inr, rules, ◌∙◌, ℕ, ℤ, pos, negsuc, neg_ℤ, suc, zero, ◌+◌, ◌^◌, ◌<◌, ◌≤◌, Bool, true, false, cond, ◌&&◌, ◌||◌, not, ◌==◌, nat_lt, nat_le, List, [], ◌∷◌, ◌++◌, length, take, drop, map, get_or, Option, Some, None, Result, Ok, Err, codes, refl, ap, sym, subst, arith, append_assoc, append-nil, length-append, lit<, lit≤}
+use Rattle.std.proofs.Common.{◌≡◌, ◌⊎◌, inl, inr, rules, ◌∙◌, ℕ, pos, neg_ℤ, suc, zero, ◌+◌, ◌^◌, ◌<◌, ◌≤◌, Bool, true, false, cond, ◌&&◌, not, nat_lt, nat_le, List, [], ◌∷◌, ◌++◌, length, take, drop, map, Some, Result, Ok, codes, refl, ap, sym, subst, arith, append_assoc, append-nil, length-append, lit<, lit≤}
 use Rattle.std.specs.List.{AllByRecursion, list_all, list_any}
 use Rattle.std.specs.Str.{bytes_eq}
 use Rattle.std.specs.Str.Lines.{lines}
 use Rattle.std.specs.Str.Parse.{starts_with_minus}
 use Rattle.std.proofs.lemmas.Bool.Decides.{nat_tests}
 use Rattle.std.proofs.lemmas.Grind.{common_steps}
-use Rattle.std.proofs.lemmas.List.{get_or-take, map-append}
+use Rattle.std.proofs.lemmas.List.{map-append}
 use Rattle.script_text.specs.declared.item.Item.{Item}
 use Rattle.script_text.specs.declared.item.Item.TheVariants as items
-use Rattle.script_text.specs.declared.item.Stmt.{Stmt}
-use Rattle.script_text.specs.declared.item.Stmt.TheVariants as statements
 use Rattle.script_text.specs.declared.rule.Rule.{Rule}
 use Rattle.script_text.specs.declared.rule.Rule.TheVariants as broken
 use Rattle.script_print.proofs.SaidType.{Said}
@@ -19,7 +17,7 @@ use Rattle.script_text.specs.Forms.{Row, first_form, forms_of, says_nothing, wit
 use Rattle.script_text.specs.Forms.{go_line, instances_line, blocks_line, undo_line, cache_line, seed_line, session_line, get_line, scan_line, put_line, add_line, del_line, lock_line}
 use Rattle.script_text.specs.Forms.{commit_line, rollback_line, savepoint_line, rollback_to_line, crash_after_line, crash_mark_line, start_line, remaster_line, checkpoint_line, hold_line}
 use Rattle.script_text.specs.Limits.{default_instances, default_blocks, default_undo, default_cache, default_seed}
-use Rattle.script_text.specs.Reading.{joined, lines_read, nothing_said, reading, script_of, settings_of, whole}
+use Rattle.script_text.specs.Reading.{joined, lines_read, nothing_said, reading, script_of, settings_of}
 use Rattle.script_text.specs.Rules.{counted, judged, judged_form, judged_words, kept, line_read}
 use Rattle.script_text.specs.ScriptParts.{ScriptParts}
 use Rattle.script_text.specs.Spelling.{is_keep, is_name, is_number, is_numeral, is_signed_number, number, signed_number}
@@ -31,7 +29,7 @@ use Rattle.script_text.proofs.Sound.{go_on-ok, line_read-lines, reading-well_for
 use Rattle.script_text.proofs.State.{items_so_far, joined-push}
 use Rattle.script_print.specs.Printed.{Mark, Asks, Ends, mark_of, marks_behind, marks_of, setting_line, setting_lines}
 use Rattle.script_print.specs.Spelled.{name_of}
-use Rattle.script_print.proofs.Items.{IsSpelled, IsSpelledStatement}
+use Rattle.script_print.proofs.Items.{IsSpelled}
 use Rattle.script_print.proofs.Names.{AreNames}
 use Rattle.script_print.proofs.Numbers.{IsSigned}
 use Rattle.script_print.proofs.ReadBack.{HasRoom, IsPrintable, opened_all}

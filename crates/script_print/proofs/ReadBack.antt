@@ -1,28 +1,25 @@
 -- The printed lines are read one after another, and say the script.
-use Rattle.std.proofs.Common.{◌≡◌, ◌∙◌, ℕ, suc, zero, ◌+◌, ◌-◌, ◌<◌, ◌≤◌, Bool, true, false, cond, ◌&&◌, ◌||◌, ◌==◌, nat_lt, nat_le, List, [], ◌∷◌, ◌++◌, length, take, map, replicate, Result, Ok, Err, codes, refl, ap, sym, subst, arith, append_assoc, append-nil, length-append, add-zero}
-use Rattle.std.specs.List.{AllByRecursion, flat_map, list_all, list_any}
-use Rattle.std.specs.Str.Lines.{lines}
-use Rattle.std.proofs.lemmas.Bool.Decides.{nat_tests}
+use Rattle.std.proofs.Common.{◌≡◌, ◌∙◌, ℕ, suc, zero, ◌+◌, ◌-◌, ◌<◌, ◌≤◌, Bool, true, false, cond, ◌||◌, nat_lt, nat_le, List, [], ◌∷◌, ◌++◌, length, take, map, replicate, Ok, Err, codes, refl, ap, sym, subst, arith, append_assoc, append-nil, length-append, add-zero}
+use Rattle.std.specs.List.{AllByRecursion, list_all, list_any}
 use Rattle.std.proofs.lemmas.Grind.{common_steps}
 use Rattle.std.proofs.lemmas.List.{length-replicate}
 use Rattle.std.proofs.lemmas.List.Folds.{list_any-append}
 use Rattle.script_text.specs.declared.item.Item.{Item}
 use Rattle.script_text.specs.declared.item.Item.TheVariants as items
-use Rattle.script_text.specs.declared.rule.Rule.{Rule}
 use Rattle.script_text.specs.declared.rule.Rule.TheVariants as rules
 use Rattle.script_print.proofs.SaidType.{Said}
 use Rattle.script_text.specs.Clashes.{clashes}
 use Rattle.script_text.specs.Forms.{go_line}
-use Rattle.script_text.specs.Reading.{Refusal, joined, lines_read, nothing_said, reading, script_of, settings_of, whole}
+use Rattle.script_text.specs.Reading.{joined, lines_read, nothing_said, reading, whole}
 use Rattle.script_text.specs.Rules.{counted, is_plain, judged_words, line_read}
 use Rattle.script_text.specs.ScriptParts.{ScriptParts}
 use Rattle.script_text.specs.Words.{words}
 use Rattle.script_text.specs.WellFormed.{AreApart, AreOpened, IsItemWithin, opened_after}
 use Rattle.script_text.proofs.Sound.{go_on-ok}
 use Rattle.script_print.specs.Printed.{Mark, Asks, Ends, lines_from, mark_of, marks_behind, marks_of, printed, printed_lines, setting_lines}
-use Rattle.script_print.specs.Spelled.{item_words, name_of, spaced}
+use Rattle.script_print.specs.Spelled.{item_words, spaced}
 use Rattle.script_print.proofs.Items.{CanCome, IsReadTo, IsReadTo-item, IsSpelled, IsSpelledScript, fixed, item-few, item-said, item-words, with_line}
-use Rattle.script_print.proofs.Rows.{Keeps, judged-keeps, line_read-empty, line_read-spaced}
+use Rattle.script_print.proofs.Rows.{judged-keeps, line_read-empty, line_read-spaced}
 use Rattle.script_print.proofs.SettingLines.{settings-read}
 use Rattle.script_print.proofs.Texts.{lines-ended}
 
@@ -128,8 +125,15 @@ module _ (parts : ScriptParts) (spelled : IsSpelledScript parts) where
         count =
             (let c = there.count in
             let d = ap length same in
-            omega (arith, c, d, lines_next, first, length-append (replicate (line.0 - (said.lines + 1)) []) (spaced (item_words parts.names line.1) ∷ behind),
-            length-replicate {A = List ℕ} (line.0 - (said.lines + 1)) []));
+            omega (
+              arith,
+              c,
+              d,
+              lines_next,
+              first,
+              length-append (replicate (line.0 - (said.lines + 1)) []) (spaced (item_words parts.names line.1) ∷ behind),
+              length-replicate {A = List ℕ} (line.0 - (said.lines + 1)) [],
+            ));
         low = there.low;
         waves = there.waves
             ∙ ap (λ (waves : List (List (ℕ × Item))). waves ++ (said_next.wave ++ rest) ∷ more) waves_next
@@ -172,8 +176,14 @@ module _ (parts : ScriptParts) (spelled : IsSpelledScript parts) where
       let waves_next : said_next.waves ≡ said.waves = with_line-waves line.1 at in
       let joined_wave : said_next.wave ++ rest ≡ said.wave ++ line ∷ rest = ap (λ (wave : List (ℕ × Item)). wave ++ rest) wave_next ∙ append_assoc said.wave (line ∷ []) rest in
       let there = reach more rest (opened_after opened line.1) said_next last small next_read
-      (record { within = can.within.1; opens = can.opens.1; spelled_items = can.spelled_items.1; apart = subst AreApart (sym joined_wave) can.apart; later = can.later;
-      room = subst (λ (n : ℕ). HasRoom (n + 1) last (map mark_of rest ++ marks_behind more)) (sym lines_next) can.room.1 }) in
+      (record {
+        within = can.within.1;
+        opens = can.opens.1;
+        spelled_items = can.spelled_items.1;
+        apart = subst AreApart (sym joined_wave) can.apart;
+        later = can.later;
+        room = subst (λ (n : ℕ). HasRoom (n + 1) last (map mark_of rest ++ marks_behind more)) (sym lines_next) can.room.1;
+      }) in
       asks-step more line rest opened said said_next last lines_next waves_next wave_next first
       (λ ls. item-read opened said line.0 line.1 ls read come first (omega arith)) there
     where

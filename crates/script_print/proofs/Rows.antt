@@ -1,13 +1,11 @@
 -- A line whose row keeps each rule.
-use Rattle.std.proofs.Common.{◌≡◌, ◌∙◌, ℕ, ◌+◌, ◌<◌, ◌≤◌, Bool, true, false, cond, ◌&&◌, ◌==◌, nat_lt, nat_le, List, [], ◌∷◌, ◌++◌, length, Result, Ok, codes, refl, ap, sym, arith}
+use Rattle.std.proofs.Common.{◌≡◌, ℕ, ◌<◌, ◌≤◌, true, ◌&&◌, nat_lt, nat_le, List, [], length, Ok, refl, arith}
 use Rattle.std.specs.List.{AllByRecursion, list_all}
 use Rattle.std.proofs.lemmas.Bool.Decides.{nat_tests}
-use Rattle.script_text.specs.declared.rule.Rule.{Rule}
 use Rattle.script_print.proofs.SaidType.{Said}
 use Rattle.script_text.specs.Forms.{Row}
-use Rattle.script_text.specs.Rules.{counted, is_plain, judged, judged_words, line_read}
+use Rattle.script_text.specs.Rules.{counted, judged, judged_words, line_read}
 use Rattle.script_text.specs.Spelling.{is_keep, is_name, is_number, is_signed_number}
-use Rattle.script_text.specs.Words.{words}
 use Rattle.script_print.specs.Spelled.{spaced}
 use Rattle.script_print.proofs.Texts.{IsWord, length-spaced, plain-spaced, words-spaced}
 

@@ -1,21 +1,20 @@
 -- The lines of the settings say the settings.
-use Rattle.std.proofs.Common.{◌≡◌, ◌∙◌, ℕ, ◌+◌, ◌%◌, ◌^◌, ◌<◌, ◌≤◌, Bool, true, false, cond, ◌&&◌, ◌==◌, nat_lt, nat_le, List, [], ◌∷◌, ◌++◌, length, take, Option, Some, None, unwrap_or, Result, Ok, codes, if◌then◌else◌, refl, ap, sym, arith, append_assoc, add-zero, length-append}
+use Rattle.std.proofs.Common.{◌≡◌, ◌∙◌, ℕ, ◌+◌, ◌%◌, ◌^◌, ◌<◌, ◌≤◌, Bool, true, false, cond, ◌==◌, nat_le, List, [], ◌∷◌, ◌++◌, length, Option, Some, None, unwrap_or, Ok, codes, if◌then◌else◌, refl, ap, sym, arith, append_assoc, add-zero, length-append}
 use Rattle.std.specs.Fmt.{decimal}
 use Rattle.std.proofs.lemmas.Bool.{eqb-true}
 use Rattle.std.proofs.lemmas.Bool.Decides.{nat_tests}
-use Rattle.script_text.specs.declared.rule.Rule.{Rule}
 use Rattle.script_print.proofs.SaidType.{Said}
 use Rattle.script_text.specs.declared.script.Settings.{Settings}
 use Rattle.script_text.specs.Forms.{instances_line, blocks_line, undo_line, cache_line, seed_line}
 use Rattle.script_text.specs.Limits.{default_instances, default_blocks, default_undo, default_cache, default_seed}
-use Rattle.script_text.specs.Reading.{Refusal, lines_read, nothing_said, settings_of}
-use Rattle.script_text.specs.Rules.{counted, judged_words, line_read}
+use Rattle.script_text.specs.Reading.{lines_read, nothing_said, settings_of}
+use Rattle.script_text.specs.Rules.{counted, judged_words}
 use Rattle.script_text.specs.WellFormed.{AreSettings}
 use Rattle.script_print.specs.Printed.{setting_line, setting_lines}
 use Rattle.script_print.specs.Spelled.{spaced}
 use Rattle.script_print.proofs.Items.{fixed}
 use Rattle.script_print.proofs.Numbers.{is_number-decimal, number-decimal, word-decimal}
-use Rattle.script_print.proofs.Rows.{Keeps, judged-keeps, line_read-spaced}
+use Rattle.script_print.proofs.Rows.{judged-keeps, line_read-spaced}
 use Rattle.script_print.proofs.Texts.{IsWord}
 
 -- a setting as it is said, which isn't where it has its default
@@ -152,8 +151,13 @@ settings-read settings are = record {
       (λ n v. record said4 { lines = n; seed = v }) refl
       (seed-judged (counted said4) refl settings.seed refl are.seed_fits) ls;
   lines = omega (arith, length-all a b c d e);
-  settings_are = rw (chosen-number default_instances settings.instances, chosen-number default_blocks settings.blocks, chosen-number default_undo settings.undo,
-      chosen-number default_cache settings.cache, chosen-number default_seed settings.seed) refl;
+  settings_are = rw (
+    chosen-number default_instances settings.instances,
+    chosen-number default_blocks settings.blocks,
+    chosen-number default_undo settings.undo,
+    chosen-number default_cache settings.cache,
+    chosen-number default_seed settings.seed,
+  ) refl;
   sessions = refl;
   homes = refl;
   waves = refl;
