@@ -1,0 +1,10 @@
+pub mod SaidType
+pub mod Texts
+pub mod Numbers
+pub mod Rows
+pub mod Names
+pub mod Items
+pub mod SettingLines
+pub mod ReadBack
+pub mod Printable
+pub mod Examples
