@@ -6,6 +6,7 @@ use super::*;
 use base_types::{BlockNo, InstNo, Layout, RedoAt, Scn, Value, Xid};
 use rac_disk::{MemDisk, SharedDisk};
 use redo_types::{HeadChange, ItlSlot, UndoChange};
+use std::alloc::Global;
 use std::process::Abort;
 use std::test::Fail;
 use undo_image::{TxnSlot, TxnState, UndoBlock, UndoHeader, UndoRecord};
@@ -130,58 +131,62 @@ fn xid(seg: u8, slot: u8, wrap: u32) -> Xid {
     }
 }
 
+// Puts a slot that ended at this SCN, or an active one for 0.
+fn put_ended(rt: &impl Abort, own: &mut Segment, slot: u8, end: u64)
+    requires { slot < 8 }
+{
+    if end == 0 {
+        put_slot(rt, own, slot, 2, active(1, 3));
+    } else {
+        put_slot(rt, own, slot, 2, ended(8, end, 3));
+    }
+}
+
 #[test]
 fn the_least_end_begins(rt: HostRuntime) -> Result<(), Fail> {
-    let alloc = rt.alloc();
-    let mut own = Segment::new(alloc, &LAYOUT, InstNo(1))?;
-    assert_eq!(rt; own.begin(), Some(xid(1, 0, 1)));
-    put_slot(&rt, &mut own, 0, 2, active(1, 3));
-    assert_eq!(rt; own.begin(), Some(xid(1, 1, 1)));
-    // Ends of the slots 1 to 7, of which the fifth was never used.
-    for (slot, end) in [(1, 70), (2, 60), (3, 40), (4, 40), (6, 30), (7, 80)] {
+    let mut own = Segment::new(rt.alloc(), &LAYOUT, InstNo(1))?;
+    // The slot that is put, its end or 0 for an active one, and the slot and the wrap of the next transaction.
+    for (slot, end, want) in [
+        (0, 0, Some((1, 1))),
+        (1, 70, Some((2, 1))),
+        (2, 60, Some((3, 1))),
+        (3, 40, Some((4, 1))),
+        (4, 40, Some((5, 1))),
+        (6, 30, Some((5, 1))),
+        (7, 80, Some((5, 1))),
+        (5, 50, Some((6, 9))),
+        (6, 0, Some((3, 9))),
+        (3, 0, Some((4, 9))),
+        (4, 0, Some((5, 9))),
+        (5, 0, Some((2, 9))),
+        (2, 0, Some((1, 9))),
+        (1, 0, Some((7, 9))),
+        (7, 0, None),
+    ] {
         assert!(rt; slot < 8);
-        assert!(rt; end >= 1);
-        put_slot(&rt, &mut own, slot, 2, ended(8, end, 3));
+        put_ended(&rt, &mut own, slot, end);
+        let next = own.begin().map(|xid| (xid.slot, xid.wrap));
+        assert_eq!(rt; next, want);
     }
-    assert_eq!(rt; own.begin(), Some(xid(1, 5, 1)));
-    put_slot(&rt, &mut own, 5, 2, ended(8, 50, 3));
-    assert_eq!(rt; own.begin(), Some(xid(1, 6, 9)));
-    put_slot(&rt, &mut own, 6, 2, active(1, 3));
-    assert_eq!(rt; own.begin(), Some(xid(1, 3, 9)));
-    put_slot(&rt, &mut own, 3, 2, ended(u32::MAX, 20, 3));
-    assert_eq!(rt; own.begin(), Some(xid(1, 3, u32::MAX)));
-    for slot in [1, 2, 3, 4, 5, 7] {
-        assert_eq!(rt; own.active() < 8, true);
-        assert!(rt; slot < 8);
-        put_slot(&rt, &mut own, slot, 2, active(1, 3));
-    }
-    assert_eq!(rt; (own.begin(), own.active()), (None, 8));
+    assert_eq!(rt; own.active(), 8);
     Ok(())
+}
+
+// Puts two active slots with these first undo records, and this next number.
+fn put_open(rt: &impl Abort, own: &mut Segment, first: u64, other: u64, next: u64) {
+    assert!(rt; first >= 1);
+    assert!(rt; other >= 1);
+    assert!(rt; next >= 1);
+    put_slot(rt, own, 2, next, active(first, 3));
+    put_slot(rt, own, 7, next, active(other, 3));
 }
 
 #[test]
 fn a_ring_is_full_where_an_open_transaction_needs_its_oldest_record(
     rt: HostRuntime,
 ) -> Result<(), Fail> {
-    let alloc = rt.alloc();
-    let mut own = Segment::new(alloc, &LAYOUT, InstNo(1))?;
-    assert_eq!(rt; own.first_dirty(), None);
-    for (k, seq) in [
-        (0, 1),
-        (0, 2),
-        (0, 3),
-        (0, 4),
-        (1, 5),
-        (1, 6),
-        (1, 7),
-        (1, 8),
-    ] {
-        assert!(rt; k < 2);
-        assert!(rt; seq >= 1);
-        assert_eq!(rt; own.fetch_own(seq), Fetch::Never);
-        put_record(&rt, &mut own, k, seq, 200 - seq);
-    }
-    assert_eq!(rt; own.first_dirty(), Some(RedoAt(195)));
+    let mut own = Segment::new(rt.alloc(), &LAYOUT, InstNo(1))?;
+    assert_eq!(rt; own.room(), Ok(1));
     // The first undo records of two open transactions, the next number, and whether there is room for it.
     for (first, other, next, room) in [
         (1, 1, 9, Err(UndoFull { first: 1, next: 9 })),
@@ -189,26 +194,44 @@ fn a_ring_is_full_where_an_open_transaction_needs_its_oldest_record(
         (5, 2, 10, Err(UndoFull { first: 2, next: 10 })),
         (9, 8, 4, Ok(4)),
     ] {
-        assert!(rt; first >= 1);
-        assert!(rt; other >= 1);
-        assert!(rt; next >= 1);
-        put_slot(&rt, &mut own, 2, next, active(first, 3));
-        put_slot(&rt, &mut own, 7, next, active(other, 3));
+        put_open(&rt, &mut own, first, other, next);
         assert_eq!(rt; own.room(), room);
     }
-    put_slot(&rt, &mut own, 2, 90, ended(5, 20, 3));
-    put_slot(&rt, &mut own, 7, 90, ended(5, 20, 3));
-    assert_eq!(rt; own.room(), Ok(90));
-    // A record of another segment's block.
-    assert!(rt; own.header().number().get() == 4);
+    Ok(())
+}
+
+// Notes that a block of the segment of instance 1 was written; the earliest place since when one is dirty then.
+fn clean(rt: &impl Abort, own: &mut Segment, k: u8) -> Option<RedoAt> {
     assert!(rt; own.undo_len() == 8);
-    own.apply_undo(&undo_change(7, 1), Scn(99), RedoAt(1));
-    assert_eq!(rt; own.first_dirty(), Some(RedoAt(195)));
-    for (k, first) in [(1, 195), (2, 300)] {
-        assert!(rt; own.undo_len() == 8);
-        assert!(rt; k <= 2);
-        own.wrote(k);
-        assert_eq!(rt; (own.is_dirty(k), own.first_dirty()), (false, Some(RedoAt(first))));
+    assert!(rt; k <= 2);
+    own.wrote(k);
+    assert!(rt; own.undo_len() == 8);
+    assert!(rt; !own.is_dirty(k));
+    own.first_dirty()
+}
+
+#[test]
+fn eight_records_fill_two_blocks(rt: HostRuntime) -> Result<(), Fail> {
+    let mut own = Segment::new(rt.alloc(), &LAYOUT, InstNo(1))?;
+    // The undo block, the record, and where its redo begins.
+    for (k, seq, at) in [
+        (0, 1, 90),
+        (0, 2, 91),
+        (0, 3, 92),
+        (0, 4, 93),
+        (1, 5, 80),
+        (1, 6, 95),
+        (1, 7, 96),
+        (1, 8, 97),
+    ] {
+        assert!(rt; k < 2);
+        assert!(rt; seq >= 1);
+        assert_eq!(rt; own.fetch_own(seq), Fetch::Never);
+        put_record(&rt, &mut own, k, seq, at);
+    }
+    put_ended(&rt, &mut own, 0, 0);
+    for (k, want) in [(2, Some(RedoAt(90))), (1, Some(RedoAt(300))), (0, None)] {
+        assert_eq!(rt; clean(&rt, &mut own, k), want);
     }
     Ok(())
 }
@@ -237,29 +260,23 @@ fn undo_block(rt: &impl Abort, number: u16, seg: u8, seq: u64) -> UndoBlock
 #[test]
 fn a_header_tells_of_transactions(rt: HostRuntime) -> Result<(), Fail> {
     let alloc = rt.alloc();
-    let mut own = Segment::new(alloc, &LAYOUT, InstNo(1))?;
+    let own = Segment::new(alloc, &LAYOUT, InstNo(1))?;
     let mut handed = Handed::new(alloc);
-    assert_eq!(rt; own.look(&handed, &xid(0, 2, 5)), Look::Unlooked);
     handed.add_head(header(&rt, 1, 0, 2, &active(1, 80)))?;
     handed.add_head(header(&rt, 1, 0, 2, &ended(5, 90, 80)))?;
-    let reused = Look::ReusedBelow {
-        end: Scn(80),
-        found: 5,
-    };
-    let told = [
-        (6, Look::Active),
-        (5, Look::Ended(Scn(90))),
-        (4, Look::Ended(Scn(80))),
-        (3, reused),
-        (1, reused),
-    ];
-    for (wrap, want) in told {
-        assert_eq!(rt; own.look(&handed, &xid(0, 2, wrap)), want);
+    let end = Scn(80);
+    for (seg, wrap, want) in [
+        (0, 6, Look::Active),
+        (0, 5, Look::Ended(Scn(90))),
+        (0, 4, Look::Ended(end)),
+        (0, 3, Look::ReusedBelow { end, found: 5 }),
+        (0, 1, Look::ReusedBelow { end, found: 5 }),
+        (1, 1, Look::Active),
+        (1, 0, Look::Ended(Scn(0))),
+        (2, 5, Look::Unlooked),
+    ] {
+        assert_eq!(rt; own.look(&handed, &xid(seg, 2, wrap)), want);
     }
-    assert_eq!(rt; own.look(&handed, &xid(1, 2, 5)), Look::Active);
-    put_slot(&rt, &mut own, 2, 2, active(1, 70));
-    assert_eq!(rt; own.look(&handed, &xid(1, 2, 5)), Look::Active);
-    assert_eq!(rt; own.look(&handed, &xid(1, 2, 4)), Look::Ended(Scn(70)));
     Ok(())
 }
 
@@ -267,27 +284,48 @@ fn a_header_tells_of_transactions(rt: HostRuntime) -> Result<(), Fail> {
 fn undo_records_are_fetched_by_their_place(rt: HostRuntime) -> Result<(), Fail> {
     let alloc = rt.alloc();
     let mut own = Segment::new(alloc, &LAYOUT, InstNo(1))?;
+    put_record(&rt, &mut own, 1, 13, 100);
     let mut handed = Handed::new(alloc);
-    assert_eq!(rt; own.fetch(&handed, &xid(0, 2, 5), 13), Fetch::Unfetched);
     handed.add_block(undo_block(&rt, 3, 0, 5))?;
     handed.add_block(undo_block(&rt, 2, 0, 1))?;
     handed.add_block(undo_block(&rt, 3, 0, 13))?;
-    put_record(&rt, &mut own, 1, 13, 100);
+    let has = Fetch::Has(undo_change(0, 13).to);
     // Block 3 of segment 0 and the second one of segment 1 have the places of 5 to 8 and 13 to 16.
-    for seg in [0, 1] {
-        let has = Fetch::Has(undo_change(0, 13).to);
-        for (seq, want) in [(13, has), (5, Fetch::Reused(13)), (14, Fetch::Never)] {
-            assert!(rt; seg < 8);
-            assert!(rt; seq >= 1);
-            assert_eq!(rt; own.fetch(&handed, &xid(seg, 2, 5), seq), want);
-        }
+    for (seg, seq, want) in [
+        (0, 13, has),
+        (0, 5, Fetch::Reused(13)),
+        (0, 14, Fetch::Never),
+        (1, 13, has),
+        (1, 5, Fetch::Reused(13)),
+        (1, 14, Fetch::Never),
+        (2, 13, Fetch::Unfetched),
+    ] {
+        assert!(rt; seg < 8);
+        assert!(rt; seq >= 1);
+        assert_eq!(rt; own.fetch(&handed, &xid(seg, 2, 5), seq), want);
     }
     Ok(())
 }
 
-// Loads the segment of instance 1 of a disk.
-fn load(rt: &HostRuntime, disk: &mut MemDisk) -> Result<Segment, LoadError> {
-    Segment::load(rt.alloc(), &LAYOUT, InstNo(1), disk)
+// Wants to load the segment of instance 1 of a disk with these bytes in the blocks 4 and 6: done, or the block and the
+// field that are bad.
+fn expect_load(
+    rt: &impl Abort,
+    alloc: Global,
+    head: &[u8; 512],
+    last: &[u8; 512],
+    want: Option<(u16, u8)>,
+) -> Result<(), Fail> {
+    let mut disk = MemDisk::new(alloc, 200, 100, Vec::new(alloc))?;
+    disk.write_block(BlockNo(4), head)?;
+    disk.write_block(BlockNo(5), &undo_bytes(rt, 5, 1, 1))?;
+    disk.write_block(BlockNo(6), last)?;
+    let why = want.map(|(block, field)| LoadError::Bad {
+        block: BlockNo(block),
+        field,
+    });
+    assert_eq!(rt; Segment::load(alloc, &LAYOUT, InstNo(1), &mut disk).err(), why);
+    Ok(())
 }
 
 // The bytes of a header.
@@ -310,40 +348,22 @@ fn undo_bytes(rt: &impl Abort, number: u16, seg: u8, seq: u64) -> [u8; 512]
 }
 
 #[test]
-fn a_segment_is_loaded_where_its_blocks_are_right(rt: HostRuntime) -> Result<(), Fail> {
-    let alloc = rt.alloc();
-    let mut disk = MemDisk::new(alloc, 200, 100, Vec::new(alloc))?;
+fn a_wrong_header_is_not_loaded(rt: HostRuntime) -> Result<(), Fail> {
     let slot = active(9, 3);
-    let tame = head_bytes(&rt, 4, 1, 10, &slot);
+    let hostile = ended(1 << 31, 9, 8);
     let undo = undo_bytes(&rt, 6, 1, 13);
-    // What stands in the blocks 4 and 6, and the block and the field that are bad.
-    let cases: [([u8; 512], [u8; 512], Option<(u16, u8)>); 9] = [
-        (tame, undo, None),
-        ([0; 512], undo, Some((4, 1))),
-        (head_bytes(&rt, 3, 1, 10, &slot), undo, Some((4, 3))),
-        (head_bytes(&rt, 4, 0, 10, &slot), undo, Some((4, 4))),
-        (head_bytes(&rt, 4, 1, 1 << 62, &slot), undo, Some((4, 7))),
-        (head_bytes(&rt, 4, 1, 10, &ended(1 << 31, 9, 8)), undo, Some((4, 8))),
-        (tame, undo_bytes(&rt, 5, 1, 13), Some((6, 3))),
-        (tame, undo_bytes(&rt, 6, 0, 13), Some((6, 4))),
-        (tame, undo_bytes(&rt, 6, 1, 1 << 62), Some((6, 8))),
-    ];
-    disk.write_block(BlockNo(5), &undo_bytes(&rt, 5, 1, 1))?;
-    for (head, last, want) in cases {
-        disk.write_block(BlockNo(4), &head)?;
-        disk.write_block(BlockNo(6), &last)?;
-        match (load(&rt, &mut disk), want) {
-            (Ok(own), None) => {
-                assert_eq!(rt; (own.active(), own.room()), (1, Ok(10)));
-                assert_eq!(rt; own.fetch_own(5), Fetch::Reused(13));
-                assert_eq!(rt; own.first_dirty(), None);
-            }
-            (Err(why), Some((block, field))) => {
-                let block = BlockNo(block);
-                assert_eq!(rt; why, LoadError::Bad { block, field });
-            }
-            (loaded, _) => assert!(rt; loaded.is_ok() && loaded.is_err()),
-        }
-    }
-    Ok(())
+    expect_load(&rt, rt.alloc(), &head_bytes(&rt, 4, 1, 10, &slot), &undo, None)?;
+    expect_load(&rt, rt.alloc(), &[0; 512], &undo, Some((4, 1)))?;
+    expect_load(&rt, rt.alloc(), &head_bytes(&rt, 3, 1, 10, &slot), &undo, Some((4, 3)))?;
+    expect_load(&rt, rt.alloc(), &head_bytes(&rt, 4, 0, 10, &slot), &undo, Some((4, 4)))?;
+    expect_load(&rt, rt.alloc(), &head_bytes(&rt, 4, 1, 1 << 62, &slot), &undo, Some((4, 7)))?;
+    expect_load(&rt, rt.alloc(), &head_bytes(&rt, 4, 1, 10, &hostile), &undo, Some((4, 8)))
+}
+
+#[test]
+fn a_wrong_undo_block_is_not_loaded(rt: HostRuntime) -> Result<(), Fail> {
+    let head = head_bytes(&rt, 4, 1, 10, &active(9, 3));
+    expect_load(&rt, rt.alloc(), &head, &undo_bytes(&rt, 5, 1, 13), Some((6, 3)))?;
+    expect_load(&rt, rt.alloc(), &head, &undo_bytes(&rt, 6, 0, 13), Some((6, 4)))?;
+    expect_load(&rt, rt.alloc(), &head, &undo_bytes(&rt, 6, 1, 1 << 62), Some((6, 8)))
 }
