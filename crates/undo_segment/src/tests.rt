@@ -123,7 +123,10 @@ fn put_record(rt: &impl Abort, own: &mut Segment, k: u8, seq: u64, at: u64)
     );
 }
 
-fn xid(seg: u8, slot: u8, wrap: u32) -> Xid {
+fn xid(seg: u8, slot: u8, wrap: u32) -> Xid
+    ensures seg { result.seg ≡ seg }
+    ensures slot { result.slot ≡ slot }
+{
     Xid {
         seg: InstNo(seg),
         slot,
@@ -289,13 +292,10 @@ fn undo_records_are_fetched_by_their_place(rt: HostRuntime) -> Result<(), Fail> 
     handed.add_block(undo_block(&rt, 3, 0, 5))?;
     handed.add_block(undo_block(&rt, 2, 0, 1))?;
     handed.add_block(undo_block(&rt, 3, 0, 13))?;
-    let has = Fetch::Has(undo_change(0, 13).to);
     // Block 3 of segment 0 and the second one of segment 1 have the places of 5 to 8 and 13 to 16.
     for (seg, seq, want) in [
-        (0, 13, has),
         (0, 5, Fetch::Reused(13)),
         (0, 14, Fetch::Never),
-        (1, 13, has),
         (1, 5, Fetch::Reused(13)),
         (1, 14, Fetch::Never),
         (2, 13, Fetch::Unfetched),
@@ -303,6 +303,11 @@ fn undo_records_are_fetched_by_their_place(rt: HostRuntime) -> Result<(), Fail> 
         assert!(rt; seg < 8);
         assert!(rt; seq >= 1);
         assert_eq!(rt; own.fetch(&handed, &xid(seg, 2, 5), seq), want);
+    }
+    for seg in [0, 1] {
+        let has = Fetch::Has(undo_change(0, 13).to);
+        assert!(rt; seg < 8);
+        assert_eq!(rt; own.fetch(&handed, &xid(seg, 2, 5), 13), has);
     }
     Ok(())
 }
