@@ -116,11 +116,7 @@ fn put_record(rt: &impl Abort, own: &mut Segment, k: u8, seq: u64, at: u64)
     assert!(rt; own.undo_len() == 8);
     assert!(rt; own.header().number().get() == 4);
     assert!(rt; own.block(k).version() < u64::MAX);
-    own.apply_undo(
-        &undo_change(5 + u16::from(k), seq),
-        Scn(99),
-        RedoAt(at),
-    );
+    own.apply_undo(&undo_change(5 + u16::from(k), seq), Scn(99), RedoAt(at));
 }
 
 fn xid(seg: u8, slot: u8, wrap: u32) -> Xid
@@ -329,7 +325,10 @@ fn expect_load(
         block: BlockNo(block),
         field,
     });
-    assert_eq!(rt; Segment::load(alloc, &LAYOUT, InstNo(1), &mut disk).err(), why);
+    assert_eq!(rt;
+        Segment::load(alloc, &LAYOUT, InstNo(1), &mut disk).err(),
+        why
+    );
     Ok(())
 }
 
@@ -357,18 +356,66 @@ fn a_wrong_header_is_not_loaded(rt: HostRuntime) -> Result<(), Fail> {
     let slot = active(9, 3);
     let hostile = ended(1 << 31, 9, 8);
     let undo = undo_bytes(&rt, 6, 1, 13);
-    expect_load(&rt, rt.alloc(), &head_bytes(&rt, 4, 1, 10, &slot), &undo, None)?;
+    expect_load(
+        &rt,
+        rt.alloc(),
+        &head_bytes(&rt, 4, 1, 10, &slot),
+        &undo,
+        None,
+    )?;
     expect_load(&rt, rt.alloc(), &[0; 512], &undo, Some((4, 1)))?;
-    expect_load(&rt, rt.alloc(), &head_bytes(&rt, 3, 1, 10, &slot), &undo, Some((4, 3)))?;
-    expect_load(&rt, rt.alloc(), &head_bytes(&rt, 4, 0, 10, &slot), &undo, Some((4, 4)))?;
-    expect_load(&rt, rt.alloc(), &head_bytes(&rt, 4, 1, 1 << 62, &slot), &undo, Some((4, 7)))?;
-    expect_load(&rt, rt.alloc(), &head_bytes(&rt, 4, 1, 10, &hostile), &undo, Some((4, 8)))
+    expect_load(
+        &rt,
+        rt.alloc(),
+        &head_bytes(&rt, 3, 1, 10, &slot),
+        &undo,
+        Some((4, 3)),
+    )?;
+    expect_load(
+        &rt,
+        rt.alloc(),
+        &head_bytes(&rt, 4, 0, 10, &slot),
+        &undo,
+        Some((4, 4)),
+    )?;
+    expect_load(
+        &rt,
+        rt.alloc(),
+        &head_bytes(&rt, 4, 1, 1 << 62, &slot),
+        &undo,
+        Some((4, 7)),
+    )?;
+    expect_load(
+        &rt,
+        rt.alloc(),
+        &head_bytes(&rt, 4, 1, 10, &hostile),
+        &undo,
+        Some((4, 8)),
+    )
 }
 
 #[test]
 fn a_wrong_undo_block_is_not_loaded(rt: HostRuntime) -> Result<(), Fail> {
     let head = head_bytes(&rt, 4, 1, 10, &active(9, 3));
-    expect_load(&rt, rt.alloc(), &head, &undo_bytes(&rt, 5, 1, 13), Some((6, 3)))?;
-    expect_load(&rt, rt.alloc(), &head, &undo_bytes(&rt, 6, 0, 13), Some((6, 4)))?;
-    expect_load(&rt, rt.alloc(), &head, &undo_bytes(&rt, 6, 1, 1 << 62), Some((6, 8)))
+    expect_load(
+        &rt,
+        rt.alloc(),
+        &head,
+        &undo_bytes(&rt, 5, 1, 13),
+        Some((6, 3)),
+    )?;
+    expect_load(
+        &rt,
+        rt.alloc(),
+        &head,
+        &undo_bytes(&rt, 6, 0, 13),
+        Some((6, 4)),
+    )?;
+    expect_load(
+        &rt,
+        rt.alloc(),
+        &head,
+        &undo_bytes(&rt, 6, 1, 1 << 62),
+        Some((6, 8)),
+    )
 }
