@@ -18,8 +18,8 @@ each_more P blocks u each here =
     let all = blocks ++ u ∷ [] in
     let last : block_in all (length blocks) ≡ u = subst (λ n. block_in all n ≡ u) (omega arith) (get_or-append-add blocks (u ∷ []) 0 (empty_undo_block 0 0)) in
     let more = below_more (λ j. P j (block_in all j)) (length blocks)
-        (λ j few. subst (P j) (sym (get_or_append_left blocks (u ∷ []) (empty_undo_block 0 0) j few)) (each j few))
-        (subst (P (length blocks)) (sym last) here) in
+    (λ j few. subst (P j) (sym (get_or_append_left blocks (u ∷ []) (empty_undo_block 0 0) j few)) (each j few))
+    (subst (P (length blocks)) (sym last) here) in
     λ j few. more j (omega (arith, length-append blocks (u ∷ [])))
 
 -- the empty blocks behind a header are its segment's

@@ -10,6 +10,8 @@ mod load;
 mod look;
 mod segment;
 mod table;
+#[cfg(test)]
+mod tests;
 
 pub use error::LoadError;
 pub use fetch::Fetch;

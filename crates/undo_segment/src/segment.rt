@@ -39,7 +39,7 @@ pub struct Segment {
 
 impl Model for Segment {
     ghost use Rattle.undo_segment.specs.New.{clean_segment};
-ghost use Rattle.undo_segment.specs.Segment.{IsSegment, SegmentState};
+    ghost use Rattle.undo_segment.specs.Segment.{IsSegment, SegmentState};
 
     ghost Value = { SegmentState };
 

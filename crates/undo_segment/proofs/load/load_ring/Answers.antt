@@ -53,8 +53,8 @@ pub returns-in_err-push-clause-disk : goal.returns-in_err-push-clause-disk
 returns-in_err-push-clause-disk g c =
     let p = err_from_is_err_and c.from_residual-in_err-push.result c.from_residual-in_err-push.ensures.1 in
     let read = more c.args.head c.args.seg c.loop-k.k _ c.loop-k.blocks.items c.in_ok-block.block
-        (g.D.SharedDisk.state c.args.disk.now) (g.D.SharedDisk.state c.loop-k.disk) (g.D.SharedDisk.state c.load_undo.new.disk)
-        (ap (λ n. n + 1 + c.loop-k.k) c.get.ensures) c.loop-k.invariant c.in_ok-block.ensures.faultless c.in_ok-block.ensures.disk in
+    (g.D.SharedDisk.state c.args.disk.now) (g.D.SharedDisk.state c.loop-k.disk) (g.D.SharedDisk.state c.load_undo.new.disk)
+    (ap (λ n. n + 1 + c.loop-k.k) c.get.ensures) c.loop-k.invariant c.in_ok-block.ensures.faultless c.in_ok-block.ensures.disk in
     rw (p.1, p.2)
     (fails_no_memory (Ring c.args.head) (IsBadUndo c.args.head c.args.seg c.args.count)
     (g.D.SharedDisk.state c.args.disk.now) (g.D.SharedDisk.state c.load_undo.new.disk) read.told read.calm)
@@ -63,8 +63,8 @@ pub loop-k-preserved : goal.loop-k-preserved
 loop-k-preserved g c =
     subst (λ (xs : List UndoContent). RingRead c.args.head c.args.seg (c.loop-k.k + 1) xs (g.D.SharedDisk.state c.args.disk.now) (g.D.SharedDisk.state c.load_undo.new.disk)) (sym c.in_ok-push.ensures.items)
     (more c.args.head c.args.seg c.loop-k.k _ c.loop-k.blocks.items c.in_ok-block.block
-        (g.D.SharedDisk.state c.args.disk.now) (g.D.SharedDisk.state c.loop-k.disk) (g.D.SharedDisk.state c.load_undo.new.disk)
-        (ap (λ n. n + 1 + c.loop-k.k) c.get.ensures) c.loop-k.invariant c.in_ok-block.ensures.faultless c.in_ok-block.ensures.disk)
+    (g.D.SharedDisk.state c.args.disk.now) (g.D.SharedDisk.state c.loop-k.disk) (g.D.SharedDisk.state c.load_undo.new.disk)
+    (ap (λ n. n + 1 + c.loop-k.k) c.get.ensures) c.loop-k.invariant c.in_ok-block.ensures.faultless c.in_ok-block.ensures.disk)
 
 pub returns-clause-count : goal.returns-clause-count
 returns-clause-count g c = c.loop-k.invariant.count ∙ omega arith
