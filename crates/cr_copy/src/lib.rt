@@ -4,6 +4,8 @@
 mod back;
 mod copy;
 mod made;
+#[cfg(test)]
+mod tests;
 
 pub use back::goes_back;
 pub use copy::{Pick, Work, make};
