@@ -80,14 +80,14 @@ locks_after image u scn is is_undo keeps =
     let names = lock_names image u is is_undo.ranges.row in
     let new : Row = record { value = u.old; lock = lock_back image u } in
     elim (either_true _ _ keeps) [
-      inl used ↦
-        let differs = eqb-false u.old_itl.xid.wrap 0 (not-true (u.old_itl.xid.wrap == 0) used) in
-        let wrap : 1 ≤ u.old_itl.xid.wrap = omega arith in
-        locks_with_used image (row_back image u) scn is some few wrap (names_after image.itl u.itl (lock_back image u) u.old_itl some (omega arith) (inr wrap) names)
-    | inr none ↦
-        locks_without image.itl u.itl u.old_itl (set image.rows u.row new) some (omega arith)
-        (ap (list_all (λ lock. not (lock == u.itl))) (map-set (λ (r : Row). r.lock) image.rows u.row new) ∙ none)
-        (all_set (λ r. NamesSlot image.itl r.lock) image.rows u.row new names is.locks)
+      | inl used ↦
+          let differs = eqb-false u.old_itl.xid.wrap 0 (not-true (u.old_itl.xid.wrap == 0) used) in
+          let wrap : 1 ≤ u.old_itl.xid.wrap = omega arith in
+          locks_with_used image (row_back image u) scn is some few wrap (names_after image.itl u.itl (lock_back image u) u.old_itl some (omega arith) (inr wrap) names)
+      | inr none ↦
+          locks_without image.itl u.itl u.old_itl (set image.rows u.row new) some (omega arith)
+          (ap (list_all (λ lock. not (lock == u.itl))) (map-set (λ (r : Row). r.lock) image.rows u.row new) ∙ none)
+          (all_set (λ r. NamesSlot image.itl r.lock) image.rows u.row new names is.locks)
     ]
 
 pub back_fits : (x : Xid) (u : UndoRecord) (segment : SegmentState) (image : BlockContent) (clock : Clock) → IsSegment segment → IsHeader segment.head → is_under_way segment.head x ≡ true → IsUndoRecord u → IsBlock image → may_step_back x u segment.head image clock ≡ true
@@ -130,16 +130,16 @@ back_fits x u segment image clock is_segment is going is_undo is_block may =
     (record { block = block; some_version = omega arith; version = omega arith; row = is_undo.ranges.row; lock = small; some_itl = is_undo.ranges.some_itl; itl = is_undo.ranges.itl })
     is_undo.old_itl is_undo.old) in
     let is_after : IsBlock (applied image (row_back image u) (clock.scn + 1)) = applied_is image (row_back image u) (clock.scn + 1) is_block (record {
-        version = image_version;
-        some_scn = some_scn;
-        scn_fits = scn_fits;
-        row = is_undo.ranges.row;
-        lock = small;
-        some_itl = is_undo.ranges.some_itl;
-        itl = is_undo.ranges.itl;
-        slot = is_undo.old_itl;
-        value = is_undo.old;
-        locks = locks_after image u (clock.scn + 1) is_block is_undo e.1;
+      version = image_version;
+      some_scn = some_scn;
+      scn_fits = scn_fits;
+      row = is_undo.ranges.row;
+      lock = small;
+      some_itl = is_undo.ranges.some_itl;
+      itl = is_undo.ranges.itl;
+      slot = is_undo.old_itl;
+      value = is_undo.old;
+      locks = locks_after image u (clock.scn + 1) is_block is_undo e.1;
     }) in
     record {
       segment_fits = record { is = is_redo; head = omega arith; undo = tt };

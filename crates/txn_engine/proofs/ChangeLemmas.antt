@@ -209,16 +209,16 @@ change_fits ask plan image segment clock is_segment is is_block is_undo may =
     (record { block = block; some_version = omega arith; version = omega arith; row = row; lock = itl; some_itl = some_itl; itl = itl })
     slot may.value) in
     let is_after : IsBlock (applied image change (clock.scn + 1)) = applied_is image change (clock.scn + 1) is_block (record {
-        version = image_version;
-        some_scn = some_scn;
-        scn_fits = scn_fits;
-        row = row;
-        lock = itl;
-        some_itl = some_itl;
-        itl = itl;
-        slot = slot;
-        value = may.value;
-        locks = locks_with_used image change (clock.scn + 1) is_block some_itl itl named.xid.wrap names;
+      version = image_version;
+      some_scn = some_scn;
+      scn_fits = scn_fits;
+      row = row;
+      lock = itl;
+      some_itl = some_itl;
+      itl = itl;
+      slot = slot;
+      value = may.value;
+      locks = locks_with_used image change (clock.scn + 1) is_block some_itl itl named.xid.wrap names;
     }) in
     let its_version = version_at segment head.front.next is_segment in
     record {

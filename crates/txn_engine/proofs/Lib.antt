@@ -1,5 +1,6 @@
 pub mod BackLemmas
 pub mod ChangeLemmas
+pub mod EndLaws
 pub mod EndLemmas
 pub mod LimitLemmas
 pub mod PartLemmas

@@ -40,7 +40,6 @@ xid_is head x is seg under =
     let seg_same = under.seg in
     (record { segment = omega arith; slot = under.slot; wrap = omega arith }, omega arith)
 
-
 -- a row by its value and its lock
 row_is : (value : Value) (lock : ℕ) → IsValue value → lock ≤ 4 → IsRow (record { value = value; lock = lock })
 row_is value lock is few = record { fits = (flag_fits value, (omega arith, (tt, (bits_fit value is, tt)))); value = is }
@@ -72,13 +71,13 @@ names_after itl k lock slot some few (inl other) (inr (low, high, used)) =
     inr (low, high, subst (λ (s : ItlSlot). 1 ≤ s.xid.wrap) (sym (get_or-set_other itl (k - 1) (lock - 1) slot unused_itl apart)) used)
 names_after itl k lock slot some few (inr is_used) (inr (low, high, used)) =
     elim (cases_eq lock k) [
-      inl same ↦
-        let is : slot_at (set itl (k - 1) slot) lock ≡ slot =
-        ap (λ (n : ℕ). get_or (set itl (k - 1) slot) (n - 1) unused_itl) same ∙ get_or-set_same itl (k - 1) slot unused_itl (omega arith) in
-        inr (low, high, subst (λ (s : ItlSlot). 1 ≤ s.xid.wrap) (sym is) is_used)
-    | inr other ↦
-        let apart : lock - 1 ≢ k - 1 = λ same. other (omega arith) in
-        inr (low, high, subst (λ (s : ItlSlot). 1 ≤ s.xid.wrap) (sym (get_or-set_other itl (k - 1) (lock - 1) slot unused_itl apart)) used)
+      | inl same ↦
+          let is : slot_at (set itl (k - 1) slot) lock ≡ slot =
+          ap (λ (n : ℕ). get_or (set itl (k - 1) slot) (n - 1) unused_itl) same ∙ get_or-set_same itl (k - 1) slot unused_itl (omega arith) in
+          inr (low, high, subst (λ (s : ItlSlot). 1 ≤ s.xid.wrap) (sym is) is_used)
+      | inr other ↦
+          let apart : lock - 1 ≢ k - 1 = λ same. other (omega arith) in
+          inr (low, high, subst (λ (s : ItlSlot). 1 ≤ s.xid.wrap) (sym (get_or-set_other itl (k - 1) (lock - 1) slot unused_itl apart)) used)
     ]
 
 -- the ranges of a change of a row, and that its slot stays one

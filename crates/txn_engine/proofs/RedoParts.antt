@@ -145,9 +145,32 @@ redo_is r numbers changes head undo row =
     record {
       fits = (
         length_fits r.kind,
-        (kind_fits r.kind, (count_fits r.kind, (omega arith, (omega arith, (tt, (omega arith, (omega arith, (omega arith,
-        AllFit-append (head_cells r.head) (cells_of undo_cells r.undo ++ cells_of data_cells r.row) head.fits
-        (AllFit-append (cells_of undo_cells r.undo) (cells_of data_cells r.row) (undo_fits r.undo undo) (row_fits r.row row)))))))))),
+        (
+          kind_fits r.kind,
+          (
+            count_fits r.kind,
+            (
+              omega arith,
+              (
+                omega arith,
+                (
+                  tt,
+                  (
+                    omega arith,
+                    (
+                      omega arith,
+                      (
+                        omega arith,
+                        AllFit-append (head_cells r.head) (cells_of undo_cells r.undo ++ cells_of data_cells r.row) head.fits
+                            (AllFit-append (cells_of undo_cells r.undo) (cells_of data_cells r.row) (undo_fits r.undo undo) (row_fits r.row row)),
+                      ),
+                    ),
+                  ),
+                ),
+              ),
+            ),
+          ),
+        ),
       );
       changes = changes;
       xid = numbers.xid;

@@ -40,12 +40,7 @@ pub enum BackTo {
 /// The redo record that takes back the last change or lock of a transaction that stands, in an image of its
 /// block; `None` where there is none to be taken back, where the image isn't the one that shows it, or where a
 /// number is at its limit.
-pub fn decide_back(
-    xid: &Xid,
-    segment: &Segment,
-    image: &DataBlock,
-    clock: &Clock,
-) -> Option<Redo>
+pub fn decide_back(xid: &Xid, segment: &Segment, image: &DataBlock, clock: &Clock) -> Option<Redo>
     ensures decided { result ≡ back_decision xid.now segment.now image.now clock.now }
     ensures fits { IfSome result (FitsBoth segment.now image.now) }
 {
@@ -214,13 +209,7 @@ fn stands_from(slot: &TxnSlot, undo: &UndoRecord) -> bool
 }
 
 #[tactic(auto, unfolding(crate::specs::Back::back_record))]
-fn back_record(
-    xid: &Xid,
-    undo: &UndoRecord,
-    head: &UndoHeader,
-    image: &DataBlock,
-    scn: Scn,
-) -> Redo
+fn back_record(xid: &Xid, undo: &UndoRecord, head: &UndoHeader, image: &DataBlock, scn: Scn) -> Redo
     requires slot { xid.now.slot < 8 }
     requires undo { IsUndoRecord undo.now }
     requires head { head.now.front.version < 2 ^ 63 }

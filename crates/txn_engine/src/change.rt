@@ -45,12 +45,7 @@ pub fn decide_change(
 
 // Whether no number of what is at hand is at its limit, the image is of the row's block, and the transaction, if
 // there is one, is under way.
-fn is_within_limits(
-    ask: &ChangeAsk,
-    image: &DataBlock,
-    segment: &Segment,
-    clock: &Clock,
-) -> bool
+fn is_within_limits(ask: &ChangeAsk, image: &DataBlock, segment: &Segment, clock: &Clock) -> bool
     ensures { result ≡ is_within_limits ask.now image.now segment.now clock.now }
 {
     let head = segment.header();

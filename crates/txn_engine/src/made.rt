@@ -85,12 +85,7 @@ fn head_made(ask: &ChangeAsk, plan: &Plan, head: &UndoHeader) -> HeadChange
     ensures { result ≡ head_made ask.now plan.now head.now }
 {
     let next = head.next();
-    let to = slot_after(
-        &ask.own,
-        &head.slot(plan.xid.slot),
-        plan.xid.wrap,
-        next,
-    );
+    let to = slot_after(&ask.own, &head.slot(plan.xid.slot), plan.xid.wrap, next);
     head_change(head, plan.xid.slot, next + 1, to)
 }
 

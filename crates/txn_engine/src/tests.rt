@@ -145,6 +145,15 @@ const OWN: Xid = Xid {
     wrap: 1,
 };
 
+// The first transaction of segment 1.
+const THEIRS: Xid = Xid {
+    seg: InstNo(1),
+    slot: 0,
+    wrap: 1,
+};
+
+const FULL: Cause = Cause::NoUndo { first: 1, next: 9 };
+
 const UNUSED: ItlSlot = ItlSlot {
     xid: NOBODY,
     seq: 0,
@@ -199,10 +208,7 @@ const FIRST: Redo = Redo {
             lock: 1,
             itl: 1,
             fresh: true,
-            slot: ItlSlot {
-                xid: OWN,
-                seq: 1,
-            },
+            slot: ItlSlot { xid: OWN, seq: 1 },
             value: Value::Num(42),
         },
     }),
@@ -235,10 +241,7 @@ const SECOND: Redo = Redo {
             block: BlockNo(0),
             version: 2,
             prev: 1,
-            old_itl: ItlSlot {
-                xid: OWN,
-                seq: 1,
-            },
+            old_itl: ItlSlot { xid: OWN, seq: 1 },
             old: Value::Num(42),
         },
     }),
@@ -250,10 +253,7 @@ const SECOND: Redo = Redo {
             lock: 1,
             itl: 1,
             fresh: false,
-            slot: ItlSlot {
-                xid: OWN,
-                seq: 2,
-            },
+            slot: ItlSlot { xid: OWN, seq: 2 },
             value: Value::Num(43),
         },
     }),
@@ -281,10 +281,7 @@ const BACK: Redo = Redo {
             lock: 1,
             itl: 1,
             fresh: false,
-            slot: ItlSlot {
-                xid: OWN,
-                seq: 1,
-            },
+            slot: ItlSlot { xid: OWN, seq: 1 },
             value: Value::Num(42),
         },
     }),
@@ -293,16 +290,27 @@ const BACK: Redo = Redo {
 #[test]
 fn changes_a_row_and_takes_it_back(rt: HostRuntime) -> Result<(), Fail> {
     let mut bench = Bench::new(rt.alloc(), 0)?;
-    let own = xid(0, 1);
-    assert_eq!(rt; bench.decide(Wish::Put(Value::Num(42)), 3, None), Decision::Do(FIRST));
-    assert_eq!(rt; bench.make(Wish::Put(Value::Num(42)), 3, None), Some(own));
-    assert_eq!(rt; bench.decide(Wish::Lock, 3, Some(own)), Decision::AlreadyMine);
-    assert_eq!(rt; bench.decide(Wish::Add(1), 3, Some(own)), Decision::Do(SECOND));
-    assert_eq!(rt; bench.make(Wish::Add(1), 3, Some(own)), Some(own));
-    assert_eq!(rt; block_to_take_back(&own, &bench.segment), BackTo::Block(BlockNo(0)));
+    let own = OWN;
+    assert_eq!(rt;
+        bench.decide(Wish::Put(Value::Num(42)), 3, None),
+        Decision::Do(FIRST)
+    );
+    assert_eq!(rt; bench.make(Wish::Put(Value::Num(42)), 3, None), Some(OWN));
+    assert_eq!(rt;
+        bench.decide(Wish::Lock, 3, Some(OWN)),
+        Decision::AlreadyMine
+    );
+    assert_eq!(rt;
+        bench.decide(Wish::Add(1), 3, Some(OWN)),
+        Decision::Do(SECOND)
+    );
+    assert_eq!(rt; bench.make(Wish::Add(1), 3, Some(OWN)), Some(OWN));
+    assert_eq!(rt;
+        block_to_take_back(&own, &bench.segment),
+        BackTo::Block(BlockNo(0))
+    );
     assert!(rt; !bench.end(&own, EndKind::RollbackEnd));
     assert_eq!(rt; bench.back(&own), Some(BACK));
-    let last = bench.back(&own);
     let free = RowChange {
         row: 3,
         lock: 0,
@@ -311,8 +319,13 @@ fn changes_a_row_and_takes_it_back(rt: HostRuntime) -> Result<(), Fail> {
         slot: UNUSED,
         value: Value::Absent,
     };
-    assert_eq!(rt; last.map(|redo| (redo.seq, redo.head.to.last)), Some((1, 0)));
-    assert_eq!(rt; last.and_then(|redo| redo.row).map(|change| change.to), Some(free));
+    match bench.back(&own) {
+        Some(redo) => {
+            assert_eq!(rt; (redo.seq, redo.head.to.last), (1, 0));
+            assert_eq!(rt; redo.row.map(|change| change.to), Some(free));
+        }
+        None => assert!(rt; false),
+    }
     assert_eq!(rt; block_to_take_back(&own, &bench.segment), BackTo::Nothing);
     assert_eq!(rt; bench.back(&own), None);
     let end = decide_end(&own, EndKind::RollbackEnd, &bench.segment, &bench.clock);
@@ -330,7 +343,10 @@ fn changes_a_row_and_takes_it_back(rt: HostRuntime) -> Result<(), Fail> {
             prev: Scn(0),
         },
     };
-    assert_eq!(rt; end.map(|redo| (redo.kind, redo.scn, redo.seq, redo.head)), Some((RedoKind::RollbackEnd, Scn(5), 0, over)));
+    assert_eq!(rt;
+        end.map(|redo| (redo.kind, redo.scn, redo.seq, redo.head)),
+        Some((RedoKind::RollbackEnd, Scn(5), 0, over))
+    );
     assert!(rt; bench.end(&own, EndKind::RollbackEnd));
     assert!(rt; !bench.end(&own, EndKind::Commit));
     assert_eq!(rt; block_to_take_back(&own, &bench.segment), BackTo::Bad);
@@ -340,24 +356,34 @@ fn changes_a_row_and_takes_it_back(rt: HostRuntime) -> Result<(), Fail> {
 #[test]
 fn refuses_by_the_first_cause(rt: HostRuntime) -> Result<(), Fail> {
     let mut bench = Bench::new(rt.alloc(), 0)?;
-    let own = xid(0, 1);
     let most = Value::Num(9_223_372_036_854_775_807);
-    assert_eq!(rt; bench.make(Wish::Put(most), 0, None), Some(own));
+    assert_eq!(rt; bench.make(Wish::Put(most), 0, None), Some(OWN));
     let overflow = Cause::Overflow {
         found: 9_223_372_036_854_775_807,
         by: 1,
     };
-    assert_eq!(rt; bench.decide(Wish::Add(1), 0, Some(own)), Decision::Refuse(overflow));
-    assert_eq!(rt; bench.decide(Wish::Del, 0, None), Decision::Refuse(Cause::Busy { xid: own }));
+    assert_eq!(rt;
+        bench.decide(Wish::Add(1), 0, Some(OWN)),
+        Decision::Refuse(overflow)
+    );
+    assert_eq!(rt;
+        bench.decide(Wish::Del, 0, None),
+        Decision::Refuse(Cause::Busy { xid: OWN })
+    );
     // another transaction than the own one, and the row of another block
     assert_eq!(rt; bench.decide(Wish::Del, 1, Some(xid(0, 2))), Decision::Bad);
     assert_eq!(rt; bench.decide(Wish::Del, 8, None), Decision::Bad);
     for _ in 0..7 {
-        assert_eq!(rt; bench.make(Wish::Put(Value::Num(1)), 0, Some(own)), Some(own));
+        assert_eq!(rt;
+            bench.make(Wish::Put(Value::Num(1)), 0, Some(OWN)),
+            Some(OWN)
+        );
     }
-    let full = Cause::NoUndo { first: 1, next: 9 };
-    assert_eq!(rt; bench.decide(Wish::Lock, 1, Some(own)), Decision::Refuse(full));
-    assert_eq!(rt; bench.decide(Wish::Add(1), 1, None), Decision::Refuse(full));
+    assert_eq!(rt;
+        bench.decide(Wish::Lock, 1, Some(OWN)),
+        Decision::Refuse(FULL)
+    );
+    assert_eq!(rt; bench.decide(Wish::Add(1), 1, None), Decision::Refuse(FULL));
     Ok(())
 }
 
@@ -365,7 +391,10 @@ fn refuses_by_the_first_cause(rt: HostRuntime) -> Result<(), Fail> {
 fn runs_out_of_slots(rt: HostRuntime) -> Result<(), Fail> {
     let mut bench = Bench::new(rt.alloc(), 0)?;
     for row in 0..4u8 {
-        assert_eq!(rt; bench.make(Wish::Lock, u16::from(row), None), Some(xid(row, 1)));
+        assert_eq!(rt;
+            bench.make(Wish::Lock, u16::from(row), None),
+            Some(xid(row, 1))
+        );
     }
     let none = Cause::NoItl {
         block: BlockNo(0),
@@ -393,8 +422,14 @@ fn takes_a_slot_again_and_waits_for_ends(rt: HostRuntime) -> Result<(), Fail> {
     // the last commit is at 16, and the first at 2
     let now = Scn(16);
     let before = Scn(15);
-    assert_eq!(rt; bench.decide_at(Wish::Lock, 0, None, before, before), Decision::ForceFirst);
-    assert_eq!(rt; bench.decide_at(Wish::Lock, 0, None, before, now), Decision::Restart(now));
+    assert_eq!(rt;
+        bench.decide_at(Wish::Lock, 0, None, before, before),
+        Decision::ForceFirst
+    );
+    assert_eq!(rt;
+        bench.decide_at(Wish::Lock, 0, None, before, now),
+        Decision::Restart(now)
+    );
     let slot = TxnSlot {
         wrap: 2,
         state: TxnState::Active,
@@ -416,21 +451,28 @@ fn takes_a_slot_again_and_waits_for_ends(rt: HostRuntime) -> Result<(), Fail> {
 #[test]
 fn needs_the_header_of_another_segment(rt: HostRuntime) -> Result<(), Fail> {
     let mut other = Bench::new(rt.alloc(), 1)?;
-    let theirs = Xid {
-        seg: InstNo(1),
-        slot: 0,
-        wrap: 1,
-    };
-    assert_eq!(rt; other.make(Wish::Lock, 5, None), Some(theirs));
+    assert_eq!(rt; other.make(Wish::Lock, 5, None), Some(THEIRS));
     let mut bench = Bench::new(rt.alloc(), 0)?;
     bench.image = other.image.copy();
     bench.clock = other.clock;
-    assert_eq!(rt; bench.decide(Wish::Del, 5, None), Decision::Need(Wanted::Head(InstNo(1))));
+    assert_eq!(rt;
+        bench.decide(Wish::Del, 5, None),
+        Decision::Need(Wanted::Head(InstNo(1)))
+    );
     bench.handed.add_head(other.segment.header().copy())?;
-    assert_eq!(rt; bench.decide(Wish::Del, 5, None), Decision::Refuse(Cause::Busy { xid: theirs }));
+    assert_eq!(rt;
+        bench.decide(Wish::Del, 5, None),
+        Decision::Refuse(Cause::Busy { xid: THEIRS })
+    );
     // a row that nobody locked, which is free since the block's SCN or before
     let zero = Scn(0);
-    assert_eq!(rt; bench.decide_at(Wish::Del, 6, None, zero, zero), Decision::ForceFirst);
-    assert_eq!(rt; bench.decide_at(Wish::Del, 6, None, zero, Scn(1)), Decision::Restart(Scn(1)));
+    assert_eq!(rt;
+        bench.decide_at(Wish::Del, 6, None, zero, zero),
+        Decision::ForceFirst
+    );
+    assert_eq!(rt;
+        bench.decide_at(Wish::Del, 6, None, zero, Scn(1)),
+        Decision::Restart(Scn(1))
+    );
     Ok(())
 }
