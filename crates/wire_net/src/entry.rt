@@ -1,12 +1,12 @@
+ghost use Rattle.std.specs.Prelude.{◌≡◌};
+ghost use Rattle.wire_net.specs.Entry.{above, empty_entry, grant_of, no_grants, no_versions, version_of, versions_above, with_grant, with_version};
+
 use crate::fifo::Fifo;
 use crate::inst_set::InstSet;
 use crate::message::{Mode, Waiting};
 use base_types::InstNo;
 use std::alloc::Global;
 use std::marker::Model;
-
-ghost use Rattle.std.specs.Prelude.{◌≡◌};
-ghost use Rattle.wire_net.specs.Entry.{above, empty_entry, grant_of, no_grants, no_versions, version_of, versions_above, with_grant, with_version};
 
 /// An instance that holds a block, with its grant.
 #[derive(Clone, Copy, Debug, PartialEq, Eq)]

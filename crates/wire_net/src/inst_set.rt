@@ -75,14 +75,22 @@ impl InstSet {
     pub fn count(&self) -> usize
         ensures { result ≡ length (members self.now) }
     {
-        ALL_INSTS.iter().copied().filter(|inst| self.has(*inst)).count()
+        ALL_INSTS
+            .iter()
+            .copied()
+            .filter(|inst| self.has(*inst))
+            .count()
     }
 
     /// How many of its instances have a lower number than this one.
     pub fn count_below(&self, inst: InstNo) -> usize
         ensures { result ≡ count_below self.now inst }
     {
-        ALL_INSTS.iter().copied().filter(|other| self.has(*other) && *other < inst).count()
+        ALL_INSTS
+            .iter()
+            .copied()
+            .filter(|other| self.has(*other) && *other < inst)
+            .count()
     }
 
     /// The instance at a place, from 0, in the order of their numbers; `None` where there is none.

@@ -30,7 +30,22 @@ impl Masters {
         let to = |bucket: u8| dealt_to(live, bucket);
         Masters {
             by_bucket: [
-                to(0), to(1), to(2), to(3), to(4), to(5), to(6), to(7), to(8), to(9), to(10), to(11), to(12), to(13), to(14), to(15),
+                to(0),
+                to(1),
+                to(2),
+                to(3),
+                to(4),
+                to(5),
+                to(6),
+                to(7),
+                to(8),
+                to(9),
+                to(10),
+                to(11),
+                to(12),
+                to(13),
+                to(14),
+                to(15),
             ],
         }
     }

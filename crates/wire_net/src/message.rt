@@ -118,7 +118,10 @@ pub enum Message {
         asker: InstNo,
     },
     /// Master to a holder that shares the block: its image has to go.
-    Invalidate { block: BlockNo, grant: u64 },
+    Invalidate {
+        block: BlockNo,
+        grant: u64,
+    },
     /// Master to asker: it holds the block from now on, with the disk's image or with the one that it has.
     Grant {
         block: BlockNo,
@@ -129,9 +132,15 @@ pub enum Message {
     /// Holder to asker: the image.
     Shipped(Shipment),
     /// Holder to reader: a copy, which shows all that was changed up to an SCN.
-    Copy { image: DataBlock, upto: Scn },
+    Copy {
+        image: DataBlock,
+        upto: Scn,
+    },
     /// Holder to master: the image of an Invalidate has gone.
-    Gone { block: BlockNo, grant: u64 },
+    Gone {
+        block: BlockNo,
+        grant: u64,
+    },
     /// Asker to master: the block is held, and a past image of it may be kept elsewhere.
     Done {
         block: BlockNo,
@@ -140,11 +149,17 @@ pub enum Message {
         past: Option<PastHolder>,
     },
     /// Holder to master: the image was given up.
-    GaveUp { block: BlockNo, grant: u64 },
+    GaveUp {
+        block: BlockNo,
+        grant: u64,
+    },
     /// Holder to master: a message found no current image.
     Back(Unfound),
     /// Holder to master: the block was written at a version.
-    Wrote { block: BlockNo, version: u64 },
+    Wrote {
+        block: BlockNo,
+        version: u64,
+    },
     /// Holder of a past image to master, and master to the exclusive holder, whose grant it then bears: the block is to be
     /// written.
     WritePlease {
@@ -154,17 +169,33 @@ pub enum Message {
         grant: Option<u64>,
     },
     /// Master to the holder of a past image: it may go.
-    DropPast { block: BlockNo, version: u64 },
+    DropPast {
+        block: BlockNo,
+        version: u64,
+    },
     /// Reader to the owner of a segment: a header or an undo block is wanted.
-    NeedUndo { block: BlockNo, job: u16 },
+    NeedUndo {
+        block: BlockNo,
+        job: u16,
+    },
     /// Owner to reader: the header or the undo block.
-    UndoIs { image: UndoImage, job: u16 },
+    UndoIs {
+        image: UndoImage,
+        job: u16,
+    },
     /// Committer to each other instance: a transaction ended at an SCN.
-    Commit { c: Scn },
+    Commit {
+        c: Scn,
+    },
     /// The answer to it.
-    Heard { c: Scn },
+    Heard {
+        c: Scn,
+    },
     /// Old master to new master: the entries of a bucket.
-    Bucket { bucket: u8, entries: DirEntries },
+    Bucket {
+        bucket: u8,
+        entries: DirEntries,
+    },
 }
 
 /// The two links from an instance to another one: what asks for undo and answers with it doesn't wait behind other

@@ -59,8 +59,21 @@ fn buckets_are_dealt_in_turn(rt: HostRuntime) {
         live.insert(InstNo(inst));
     }
     let mut masters = Masters::dealt(&live);
-    for (block, want) in [(0, 1), (1, 4), (2, 6), (3, 1), (15, 1), (16, 1), (31, 1), (33, 4)] {
-        assert_eq!(rt; masters.of(BlockNo(block)), InstNo(want), "of block {block}");
+    for (block, want) in [
+        (0, 1),
+        (1, 4),
+        (2, 6),
+        (3, 1),
+        (15, 1),
+        (16, 1),
+        (31, 1),
+        (33, 4),
+    ] {
+        assert_eq!(rt;
+            masters.of(BlockNo(block)),
+            InstNo(want),
+            "of block {block}"
+        );
     }
     masters.set(1, InstNo(6));
     assert_eq!(rt; masters.of(BlockNo(17)), InstNo(6));
