@@ -1,4 +1,4 @@
-use Rattle.std.proofs.Common.{◌≡◌, ℕ, zero, suc, ◌<◌, true, false, ◌⊎◌, List, [], ◌∷◌, Option, Some, None, get_or, set, option_map, refl, sym, ap, subst, inl, inr, ◌∙◌, arith, rules, lit<, lit≤, pos}
+use Rattle.std.proofs.Common.{◌≡◌, ℕ, zero, suc, ◌<◌, true, ◌⊎◌, List, [], ◌∷◌, Option, Some, None, get_or, set, option_map, refl, sym, ap, subst, inl, inr, ◌∙◌, rules, lit<, lit≤, pos}
 use Rattle.std.specs.Option.{ForSome}
 use Rattle.base_types.specs.declared.value.Value.TheVariants.{Num}
 use Rattle.redo_types.specs.declared.blocks.RowChange.{RowChange}
