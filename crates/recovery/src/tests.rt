@@ -33,7 +33,7 @@ fn record(version: u64) -> Tagged {
         redo: Redo {
             kind: RedoKind::Change,
             xid: XID,
-            scn: Scn(100 + version),
+            scn: Scn(version.saturating_add(100)),
             seq: version,
             head: HeadChange {
                 block: BlockNo(64),
