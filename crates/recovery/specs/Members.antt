@@ -1,19 +1,10 @@
 -- Who is in the cluster, and how that changes.
-use Rattle.std.specs.Prelude.{ℕ, ◌+◌, ◌-◌, ◌^◌, min, not, Bool, false, if◌then◌else◌, Option, position, slice_set}
-use Rattle.std.specs.List.{list_all}
-use Rattle.scn_clock.specs.declared.insts.InstSet.{InstSet}
-use Rattle.scn_clock.specs.Insts.{holds_all, no_insts, with_inst}
+use Rattle.std.specs.Prelude.{ℕ, ◌+◌, ◌-◌, ◌^◌, min, Bool, if◌then◌else◌, Option}
+use Rattle.inst_set.specs.declared.set.InstSet.{InstSet}
+use Rattle.inst_set.specs.Sets.{holds_all, is_empty, member_at, no_insts, with_inst, without_inst}
 use Rattle.recovery.specs.declared.members.Membership.{Membership}
 use Rattle.recovery.specs.declared.members.Phase.{Phase}
 use Rattle.recovery.specs.declared.members.Phase.TheVariants.{Dark, Frozen}
-
--- Nobody is in the set.
-abbrev pub is_empty : InstSet → Bool
-is_empty insts = list_all not insts.members
-
--- the set without an instance
-abbrev pub without : InstSet → ℕ → InstSet
-without insts inst = record { members = slice_set insts.members inst false }
 
 -- After a change the live instances report; where there are none it is dark.
 abbrev pub phase_of : InstSet → Phase
@@ -29,19 +20,15 @@ changed members live = record { epoch = next_epoch members.epoch; live = live; p
 
 -- an instance is lost
 abbrev pub left_by : Membership → ℕ → Membership
-left_by members inst = changed members (without members.live inst)
+left_by members inst = changed members (without_inst members.live inst)
 
 -- an instance comes in
 abbrev pub entered : Membership → ℕ → Membership
 entered members inst = changed members (with_inst members.live inst)
 
--- the lowest instance in a set
-abbrev pub lowest : InstSet → Option ℕ
-lowest insts = position (λ is_in. is_in) insts.members
-
 -- the lowest live instance
 abbrev pub leader : Membership → Option ℕ
-leader members = lowest members.live
+leader members = member_at members.live 0
 
 -- Each live instance has reported.
 abbrev pub all_reported : Membership → Bool

@@ -1,8 +1,8 @@
-ghost use Rattle.std.specs.Prelude.{◌≡◌, ◌<◌, IfSome};
-ghost use Rattle.recovery.specs.Members.{all_reported, changed, entered, is_empty, leader, left_by, lowest, phase_of, without};
+ghost use Rattle.std.specs.Prelude.{◌≡◌};
+ghost use Rattle.recovery.specs.Members.{all_reported, changed, entered, leader, left_by, phase_of};
 
 use base_types::InstNo;
-use scn_clock::InstSet;
+use inst_set::InstSet;
 
 /// How far a change of the membership has come.
 #[derive(Clone, Copy, Debug, PartialEq, Eq)]
@@ -33,7 +33,9 @@ impl Membership {
     pub fn leave(&mut self, inst: InstNo)
         ensures { self.new ≡ left_by self.old inst }
     {
-        self.change(without(self.live, inst));
+        let mut live = self.live;
+        live.remove(inst);
+        self.change(live);
     }
 
     /// An instance comes in. The epoch stays at the last `u32`.
@@ -41,7 +43,7 @@ impl Membership {
         ensures { self.new ≡ entered self.old inst }
     {
         let mut live = self.live;
-        live.add(inst);
+        live.insert(inst);
         self.change(live);
     }
 
@@ -51,15 +53,14 @@ impl Membership {
         self.epoch = self.epoch.saturating_add(1);
         self.live = live;
         self.phase = phase_of(&live);
-        self.reported = InstSet::empty();
+        self.reported = InstSet::new();
     }
 
     /// Who leads the recovery: the lowest live instance; `None` where nobody is live.
     pub fn leader(&self) -> Option<InstNo>
         ensures { result ≡ leader self.now }
     {
-        let place = first_place(&self.live)?;
-        Some(InstNo(place as u8))
+        self.live.member(0)
     }
 
     /// Whether each live instance has reported since the last change.
@@ -74,33 +75,9 @@ impl Membership {
 fn phase_of(live: &InstSet) -> Phase
     ensures { result ≡ phase_of live.now }
 {
-    if is_empty(live) {
+    if live.is_empty() {
         Phase::Dark
     } else {
         Phase::Frozen
     }
-}
-
-fn is_empty(insts: &InstSet) -> bool
-    ensures { result ≡ is_empty insts.now }
-{
-    insts.members.iter().all(|is_in| !*is_in)
-}
-
-// The lowest number of an instance in the set.
-fn first_place(insts: &InstSet) -> Option<usize>
-    ensures place { result ≡ lowest insts.now }
-    ensures within { IfSome result (λ place. place < 8) }
-{
-    insts.members.iter().position(|is_in| *is_in)
-}
-
-fn without(mut insts: InstSet, inst: InstNo) -> InstSet
-    ensures { result ≡ without insts inst }
-{
-    let place = usize::from(inst.get());
-    if place < 8 {
-        insts.members[place] = false;
-    }
-    insts
 }

@@ -1,12 +1,12 @@
 use super::*;
 use base_types::{BlockNo, InstNo, Layout, Scn, Value, Xid};
 use block_image::DataBlock;
+use inst_set::InstSet;
 use redo_merge::Tagged;
 use redo_types::{
     DataChange, HeadChange, ItlSlot, Redo, RedoKind, RowChange, TxnSlot, TxnState, UndoChange,
     UndoRecord,
 };
-use scn_clock::InstSet;
 use std::test::Fail;
 use undo_image::{UndoBlock, UndoHeader};
 use wire_net::{Frame, Mode, Report};
@@ -142,18 +142,16 @@ fn the_base_is_the_newest_image(rt: HostRuntime) -> Result<(), Fail> {
 fn the_membership_goes_dark_and_comes_up(rt: HostRuntime) -> Result<(), Fail> {
     let mut members = Membership {
         epoch: 3,
-        live: InstSet {
-            members: [false, true, false, false, true, false, false, false],
-        },
+        live: InstSet::from_array([false, true, false, false, true, false, false, false]),
         phase: Phase::Running,
-        reported: InstSet::empty(),
+        reported: InstSet::new(),
     };
     assert_eq!(rt; members.leader(), Some(InstNo(1)));
     members.leave(InstNo(1));
     assert_eq!(rt; members.leader(), Some(InstNo(4)));
     assert_eq!(rt; members.phase, Phase::Frozen);
     assert!(rt; !members.all_reported());
-    members.reported.add(InstNo(4));
+    members.reported.insert(InstNo(4));
     assert!(rt; members.all_reported());
     members.leave(InstNo(4));
     assert_eq!(rt; members.leader(), None);

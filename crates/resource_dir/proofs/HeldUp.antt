@@ -14,7 +14,7 @@ use Rattle.wire_net.specs.declared.entry.Holder.{Holder}
 use Rattle.wire_net.specs.declared.entry.PastHolder.{PastHolder}
 use Rattle.wire_net.specs.declared.entry.Operation.{Operation}
 use Rattle.wire_net.specs.declared.entry.Entry.{Entry}
-use Rattle.wire_net.specs.InstSet.{all_insts, is_empty}
+use Rattle.inst_set.specs.Sets.{all_insts, is_empty}
 use Rattle.wire_net.specs.Entry.{version_of}
 use Rattle.resource_dir.specs.Holders.{first_sharer, has_other_sharer, is_granting, is_number, is_other_sharer, other_sharers, other_than, taken_out}
 use Rattle.resource_dir.specs.Taken.{Taken, silent, and_then, where_busy, queued}

@@ -10,7 +10,7 @@ use Rattle.wire_net.specs.declared.entry.Holder.{Holder}
 use Rattle.wire_net.specs.declared.entry.Grants.{Grants}
 use Rattle.wire_net.specs.declared.entry.Operation.{Operation}
 use Rattle.wire_net.specs.declared.entry.Entry.{Entry}
-use Rattle.wire_net.specs.InstSet.{all_insts, no_insts, is_empty}
+use Rattle.inst_set.specs.Sets.{all_insts, no_insts, is_empty}
 use Rattle.wire_net.specs.Entry.{grant_of, with_grant}
 use Rattle.resource_dir.specs.Holders.{other_than, first_sharer, has_other_sharer, is_other_sharer, is_sharer, other_sharers, grant_after}
 use Rattle.resource_dir.specs.Taken.{Taken, silent, telling, where_busy, queued}

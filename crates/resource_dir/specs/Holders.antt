@@ -1,12 +1,12 @@
 -- Who holds a block, by its entry in the directory.
 use Rattle.std.specs.Prelude.{ℕ, ◌+◌, ◌-◌, ◌^◌, ◌==◌, ◌&&◌, if◌then◌else◌, Bool, true, false, not, List, map, min, filter, find, Option, None, Some, is_some, unwrap_or}
 use Rattle.std.specs.List.{list_any}
-use Rattle.wire_net.specs.declared.inst_set.InstSet.{InstSet}
+use Rattle.inst_set.specs.declared.set.InstSet.{InstSet}
 use Rattle.wire_net.specs.declared.entry.Holder.{Holder}
 use Rattle.wire_net.specs.declared.entry.Grants.{Grants}
 use Rattle.wire_net.specs.declared.entry.Operation.{Operation}
 use Rattle.wire_net.specs.declared.entry.Entry.{Entry}
-use Rattle.wire_net.specs.InstSet.{all_insts, has, without_inst}
+use Rattle.inst_set.specs.Sets.{all_insts, has, without_inst}
 use Rattle.wire_net.specs.Entry.{grant_of, with_grant}
 
 -- whether a number is there and is this one

@@ -7,7 +7,7 @@ use Rattle.wire_net.specs.declared.entry.Holder.{Holder}
 use Rattle.wire_net.specs.declared.entry.PastHolder.{PastHolder}
 use Rattle.wire_net.specs.declared.entry.PastVersions.{PastVersions}
 use Rattle.wire_net.specs.declared.entry.Entry.{Entry}
-use Rattle.wire_net.specs.InstSet.{all_insts}
+use Rattle.inst_set.specs.Sets.{all_insts}
 use Rattle.wire_net.specs.Entry.{version_of, versions_above, with_version}
 use Rattle.resource_dir.specs.Taken.{Taken, silent, telling, and_then, where_busy, queued}
 

@@ -10,7 +10,8 @@ use crate::holders::{
     first_sharer, has_other_sharer, is_other_sharer, is_sharer, other_sharers, other_than,
 };
 use base_types::{BlockNo, InstNo, NoMemory};
-use wire_net::{ALL_INSTS, Entry, Grants, Holder, InstSet, Message, Mode, Operation, Waiting};
+use inst_set::{ALL_INSTS, InstSet};
+use wire_net::{Entry, Grants, Holder, Message, Mode, Operation, Waiting};
 
 // Takes an asker that holds nothing out of the holders.
 fn step_out(entry: &mut Entry, asker: InstNo, held: Mode)

@@ -4,7 +4,8 @@ ghost use Rattle.std.specs.Prelude.{◌≡◌};
 ghost use Rattle.resource_dir.specs.Holders.{first_sharer, has_other_sharer, is_granting, is_number, is_other_sharer, is_sharer, other_sharers, other_than, sharer_under, taken_out, under_other, unshared, unwaited};
 
 use base_types::InstNo;
-use wire_net::{ALL_INSTS, Entry, Grants, Holder, InstSet, Operation};
+use inst_set::{ALL_INSTS, InstSet};
+use wire_net::{Entry, Grants, Holder, Operation};
 
 /// Whether a number is there and is this one.
 pub fn is_number(known: Option<u64>, number: u64) -> bool

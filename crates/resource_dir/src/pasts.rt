@@ -7,7 +7,8 @@ ghost use Rattle.resource_dir.specs.Pasts.{answer_plea, drops_to, is_newer, keep
 
 use crate::Outbox;
 use base_types::{BlockNo, InstNo, NoMemory};
-use wire_net::{ALL_INSTS, Entry, Message, PastHolder, PastVersions, Waiting};
+use inst_set::ALL_INSTS;
+use wire_net::{Entry, Message, PastHolder, PastVersions, Waiting};
 
 // Whether a version is there and is above another one.
 fn is_newer(version: Option<u64>, other: u64) -> bool

@@ -1,10 +1,11 @@
 use super::*;
 use base_types::{BlockNo, Scn, Sequence};
+use inst_set::{ALL_INSTS, InstSet};
 use std::alloc::{AllocError, Global};
 use std::fmt::Write;
 use std::process::Abort;
 use std::test::Fail;
-use wire_net::{ALL_INSTS, Entry, Frame, InstSet, Masters, Mode, PastHolder, Report, Unfound};
+use wire_net::{Entry, Frame, Masters, Mode, PastHolder, Report, Unfound};
 
 const BLOCK: BlockNo = BlockNo(5);
 

@@ -1,8 +1,8 @@
 -- The news of an end, on its way to the other instances.
 use Rattle.std.specs.Prelude.{ℕ, Bool}
 use Rattle.scn_clock.specs.declared.broadcast.Broadcast.{Broadcast}
-use Rattle.scn_clock.specs.declared.insts.InstSet.{InstSet}
-use Rattle.scn_clock.specs.Insts.{holds_all, limited_to, no_insts, with_inst}
+use Rattle.inst_set.specs.declared.set.InstSet.{InstSet}
+use Rattle.inst_set.specs.Sets.{holds_all, limited_to, no_insts, with_inst}
 
 -- the news of this end, asked of these, of whom none has heard
 abbrev pub news_of : ℕ → InstSet → Broadcast

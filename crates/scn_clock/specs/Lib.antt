@@ -1,3 +1,2 @@
 pub mod Clock
-pub mod Insts
 pub mod Broadcast

@@ -1,8 +1,8 @@
 ghost use Rattle.std.specs.Prelude.{◌≡◌};
 ghost use Rattle.scn_clock.specs.Broadcast.{heard_by, is_whole, limited, news_of};
 
-use crate::insts::InstSet;
 use base_types::{InstNo, Scn};
+use inst_set::InstSet;
 
 /// The news of a transaction's end, on its way to the other instances.
 #[derive(Clone, Copy, Debug, PartialEq, Eq)]
@@ -23,7 +23,7 @@ impl Broadcast {
         Broadcast {
             end,
             asked: *asked,
-            heard: InstSet::empty(),
+            heard: InstSet::new(),
         }
     }
 
@@ -31,7 +31,7 @@ impl Broadcast {
     pub fn hear(&mut self, inst: InstNo)
         ensures { self.new ≡ heard_by self.old inst }
     {
-        self.heard.add(inst);
+        self.heard.insert(inst);
     }
 
     /// Asks those alone who live.

@@ -1,5 +1,6 @@
 use super::*;
 use base_types::{InstNo, Scn};
+use inst_set::InstSet;
 
 fn clock(scn: u64, known: u64) -> Clock {
     Clock {
@@ -9,9 +10,9 @@ fn clock(scn: u64, known: u64) -> Clock {
 }
 
 fn insts(numbers: &[u8]) -> InstSet {
-    let mut set = InstSet::empty();
+    let mut set = InstSet::new();
     for number in numbers {
-        set.add(InstNo(*number));
+        set.insert(InstNo(*number));
     }
     set
 }

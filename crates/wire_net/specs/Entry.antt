@@ -3,7 +3,7 @@ use Rattle.std.specs.Prelude.{ℕ, nat_lt, if◌then◌else◌, [], map, Option,
 use Rattle.wire_net.specs.declared.entry.Grants.{Grants}
 use Rattle.wire_net.specs.declared.entry.PastVersions.{PastVersions}
 use Rattle.wire_net.specs.declared.entry.Entry.{Entry}
-use Rattle.wire_net.specs.InstSet.{all_insts}
+use Rattle.inst_set.specs.Sets.{all_insts}
 
 -- the grant of an instance that shares a block
 abbrev pub grant_of : Grants → ℕ → Option ℕ

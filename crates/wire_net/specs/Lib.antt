@@ -1,4 +1,3 @@
 pub mod Entry
-pub mod InstSet
 pub mod Links
 pub mod Masters

@@ -1,8 +1,8 @@
 -- The table of masters.
 use Rattle.std.specs.Prelude.{ℕ, ◌%◌, List, [], ◌∷◌, length, map, max, slice_index, slice_set, unwrap_or}
-use Rattle.wire_net.specs.declared.inst_set.InstSet.{InstSet}
+use Rattle.inst_set.specs.declared.set.InstSet.{InstSet}
 use Rattle.wire_net.specs.declared.masters.Masters.{Masters}
-use Rattle.wire_net.specs.InstSet.{member_at, members}
+use Rattle.inst_set.specs.Sets.{member_at, members}
 
 -- the master of a block
 abbrev pub master_of : Masters → ℕ → ℕ

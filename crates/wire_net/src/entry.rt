@@ -2,9 +2,9 @@ ghost use Rattle.std.specs.Prelude.{◌≡◌};
 ghost use Rattle.wire_net.specs.Entry.{above, empty_entry, grant_of, no_grants, no_versions, version_of, versions_above, with_grant, with_version};
 
 use crate::fifo::Fifo;
-use crate::inst_set::InstSet;
 use crate::message::{Mode, Waiting};
 use base_types::InstNo;
+use inst_set::InstSet;
 use std::alloc::Global;
 use std::marker::Model;
 

@@ -5,7 +5,6 @@
 mod entry;
 mod fifo;
 mod image;
-mod inst_set;
 mod links;
 mod masters;
 mod message;
@@ -16,7 +15,6 @@ mod tests;
 pub use entry::{DirEntries, Entry, Grants, Holder, Operation, PastHolder, PastVersions};
 pub use fifo::Fifo;
 pub use image::CurrentImage;
-pub use inst_set::{ALL_INSTS, InstSet};
 pub use links::Links;
 pub use masters::Masters;
 pub use message::{Lane, Message, Mode, Packet, Role, Shipment, UndoImage, Unfound, Waiting};

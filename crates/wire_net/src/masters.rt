@@ -1,8 +1,8 @@
 ghost use Rattle.std.specs.Prelude.{◌≡◌};
 ghost use Rattle.wire_net.specs.Masters.{dealt, dealt_to, master_of, with_master};
 
-use crate::inst_set::InstSet;
 use base_types::{BlockNo, InstNo};
+use inst_set::InstSet;
 
 /// The table of the masters of the 16 buckets. A block is in the bucket with the number of its remainder by 16.
 #[derive(Clone, Copy, Debug, PartialEq, Eq)]

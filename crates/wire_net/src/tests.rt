@@ -1,5 +1,6 @@
 use super::*;
 use base_types::{BlockNo, InstNo, Scn};
+use inst_set::InstSet;
 use std::process::Abort;
 use std::test::Fail;
 

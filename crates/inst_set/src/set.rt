@@ -1,5 +1,6 @@
 ghost use Rattle.std.specs.Prelude.{◌≡◌, length};
-ghost use Rattle.wire_net.specs.InstSet.{count_below, has, is_empty, member_at, members, no_insts, with_inst, without_inst};
+ghost use Rattle.std.specs.List.{list_all};
+ghost use Rattle.inst_set.specs.Sets.{count_below, has, has_if, holds_all, in_both, is_empty, limited_to, member_at, members, no_insts, with_inst, without_inst};
 
 use base_types::InstNo;
 
@@ -102,4 +103,50 @@ impl InstSet {
             .copied()
             .find(|inst| self.has(*inst) && self.count_below(*inst) == place)
     }
+
+    /// Whether each instance of the other set is in this one.
+    pub fn holds_all(&self, other: &InstSet) -> bool
+        ensures { result ≡ holds_all self.now other.now }
+    {
+        has_each(self, other, &ALL_INSTS)
+    }
+
+    /// The instances that are in both sets.
+    pub fn limited_to(&self, other: &InstSet) -> InstSet
+        ensures { result ≡ limited_to self.now other.now }
+    {
+        InstSet {
+            present: [
+                in_both(self, other, 0),
+                in_both(self, other, 1),
+                in_both(self, other, 2),
+                in_both(self, other, 3),
+                in_both(self, other, 4),
+                in_both(self, other, 5),
+                in_both(self, other, 6),
+                in_both(self, other, 7),
+            ],
+        }
+    }
+}
+
+// Whether of these instances each one of the second set is in the first.
+fn has_each(set: &InstSet, other: &InstSet, insts: &[InstNo]) -> bool
+    ensures { result ≡ list_all (has_if set.now other.now) insts.now }
+{
+    insts.iter().all(|inst| has_if(set, other, *inst))
+}
+
+// Whether an instance is in the first set, or not in the second.
+fn has_if(set: &InstSet, other: &InstSet, inst: InstNo) -> bool
+    ensures { result ≡ has_if set.now other.now inst }
+{
+    !other.has(inst) || set.has(inst)
+}
+
+// Whether an instance is in both sets.
+fn in_both(set: &InstSet, other: &InstSet, inst: u8) -> bool
+    ensures { result ≡ in_both set.now other.now inst }
+{
+    set.has(InstNo(inst)) && other.has(InstNo(inst))
 }
