@@ -13,6 +13,7 @@ use Rattle.script_text.specs.GoodLines.{AllAnswered}
 use Rattle.script_text.specs.Limits.{text_bytes}
 use Rattle.script_text.specs.ScriptParts.{ScriptParts}
 use Rattle.run_report.specs.Reports.{report_text}
+use Rattle.plain_node.specs.Beside.{KeepsAllButLogs}
 use Rattle.plain_node.specs.Ends.{causes_in, ends_in}
 use Rattle.plain_node.specs.Good.{GoodRun}
 use Rattle.plain_node.specs.Engine.{IsOneFault, LogsTell}
@@ -83,6 +84,7 @@ pub record Runs (with_journal : Bool) (left left_now : Option (List ℕ)) (read 
   -- what the disk has
   pub untouched : is_before_disk exit.end ≡ true → disk_now ≡ disk
   pub uncreated : exit.end ≡ NotCreated → MayBeCut disk.told disk_now.told
+  pub kept : KeepsAllButLogs disk.told disk_now.told
   pub calm : exit.end ≡ Done → IsCalm disk disk_now
   pub redo : is_told exit.end ≡ true → RedoTells exit.journal disk disk_now
   -- how instances ended, and that a full log has its cause

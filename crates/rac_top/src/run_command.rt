@@ -8,6 +8,7 @@ ghost use Rattle.script_text.specs.OneSession.{is_for_one_session};
 ghost use Rattle.script_text.specs.Reading.{items_of};
 ghost use Rattle.script_text.specs.WellFormed.{IsWellFormed};
 ghost use Rattle.run_report.specs.Reports.{report_text};
+ghost use Rattle.plain_node.specs.Beside.{KeepsAllButLogs};
 ghost use Rattle.plain_node.specs.Ran.{IsRan};
 ghost use Rattle.rac_top.specs.Creation.{MayBeCut};
 ghost use Rattle.rac_top.specs.Ends.{RunEndsFor, Stayed, is_before_disk, is_done, is_told};
@@ -43,6 +44,7 @@ fn run_and_report<D: SharedDisk>(
     requires one_session { list_all (λ line. is_for_one_session line.1) (items_of script.now) ≡ true }
     ensures ran { IfOk result (λ run. IsRan script.now (D.state disk.old) (D.state disk.new) run.ran) }
     ensures report { IfOk result (λ run. run.report.items ≡ report_text script.now run.ran.journal with_journal) }
+    ensures kept { KeepsAllButLogs (D.state disk.old).told (D.state disk.new).told }
 {
     let ran = run_script(alloc, script, disk)?;
     let report = report(alloc, script, &ran.journal, with_journal)?;
@@ -92,6 +94,7 @@ pub fn run<S: Source, K: Sink, D: SharedDisk>(
     // What the disk has.
     ensures untouched { is_before_disk result.end ≡ true → disk.new ≡ disk.old }
     ensures uncreated { result.end ≡ End.NotCreated → MayBeCut (D.state disk.old).told (D.state disk.new).told }
+    ensures kept { KeepsAllButLogs (D.state disk.old).told (D.state disk.new).told }
     ensures calm { result.end ≡ End.Done → IsCalm (D.state disk.old) (D.state disk.new) }
     ensures redo { is_told result.end ≡ true → RedoTells result.journal (D.state disk.old) (D.state disk.new) }
     // How instances ended, and that a full log has its cause.

@@ -12,6 +12,7 @@ returns-in-Ok-Run-clause-does g c =
       silent = λ no. ((c.run.ensures.silent no).0, ap g.K.Sink.holds (c.run.ensures.silent no).1);
       untouched = λ no. ap g.D.SharedDisk.state (c.run.ensures.untouched no);
       uncreated = c.run.ensures.uncreated;
+      kept = c.run.ensures.kept;
       calm = c.run.ensures.calm;
       redo = c.run.ensures.redo;
       ends = c.run.ensures.ends;
