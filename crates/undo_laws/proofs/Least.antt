@@ -19,7 +19,7 @@ among_at [] k d few = absurd (omega arith)
 among_at (slot ∷ slots) zero d few = inl refl
 among_at (slot ∷ slots) (suc k) d few = inr (among_at slots k d (omega arith))
 
--- what is found passes, and something is found where one of these passes
+-- one that passes is found where one of these passes
 find_passes : (p : TxnSlot → Bool) (slots : List TxnSlot) (slot : TxnSlot) → Among slot slots → p slot ≡ true → (o : TxnSlot) × (find p slots ≡ Some o) × (p o ≡ true)
 find_passes p [] slot a t = absurd a
 find_passes p (other ∷ slots) slot a t =
@@ -29,6 +29,7 @@ find_passes p (other ∷ slots) slot a t =
     ] in
     pick (p other) refl
 
+-- what is found passes
 found_passes : (p : TxnSlot → Bool) (slots : List TxnSlot) (o : TxnSlot) → find p slots ≡ Some o → p o ≡ true
 found_passes p [] o e = absurd (let clash : None ≡ Some o = e in cc)
 found_passes p (slot ∷ slots) o e =
@@ -38,6 +39,7 @@ found_passes p (slot ∷ slots) o e =
     ] in
     pick (p slot) refl e
 
+-- What the two tests of a later first tell, and the other way round.
 active_from : (b : Bool) (x y : ℕ) → (not b || nat_le x y) ≡ false → (b ≡ true) × (y < x)
 active_from true x y e = (refl, leb-false x y e)
 active_from false x y e = absurd (let clash : true ≡ false = e in cc)
@@ -75,9 +77,9 @@ least slot (other ∷ slots) active =
     let pick : (b : Bool) → began_no_later slot other ≡ b → Least slot (other ∷ slots) = λ b. elim b as (λ b. began_no_later slot other ≡ b → Least slot (other ∷ slots)) [
       | true ↦ λ e. let r = least slot slots active in
           (r.0, elim r.1 [ inl same ↦ inl same | inr rest ↦ inr (inr rest) ], r.2, r.3, and_true _ _ (earlier_too (is_active other.state) r.0.first slot.first other.first e r.3) r.4)
-      | false ↦ λ e. let open_now = active_from (is_active other.state) slot.first other.first e in
-          let r = least other slots open_now.0 in
-          (r.0, elim r.1 [ inl same ↦ inr (inl same) | inr rest ↦ inr (inr rest) ], r.2, omega (arith, r.3, open_now.1), and_true _ _ (or_true (is_active other.state) r.0.first other.first r.3) r.4)
+      | false ↦ λ e. let held = active_from (is_active other.state) slot.first other.first e in
+          let r = least other slots held.0 in
+          (r.0, elim r.1 [ inl same ↦ inr (inl same) | inr rest ↦ inr (inr rest) ], r.2, omega (arith, r.3, held.1), and_true _ _ (or_true (is_active other.state) r.0.first other.first r.3) r.4)
     ] in
     pick (began_no_later slot other) refl
 

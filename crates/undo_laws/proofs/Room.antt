@@ -44,8 +44,8 @@ refuses own is header over =
     let o = over.2 in
     let next = own.head.front.next in
     let undo = own.layout.undo in
-    let one : 1 ≤ (slot_at own.head k).first = slot_has_first own.head k header o.within o.open_now in
-    let old = oldest_found own.head.slots k never_slot (omega (arith, header.slots.eight, o.within)) o.open_now in
+    let one : 1 ≤ (slot_at own.head k).first = slot_has_first own.head k header o.within o.active in
+    let old = oldest_found own.head.slots k never_slot (omega (arith, header.slots.eight, o.within)) o.active in
     let far = apart undo (seq - 1) (next - 1) (omega (arith, o.from_first, o.before_next, one)) o.one_place in
     let full = le-leb undo (next - old.0.first) (omega (arith, far, old.2, one, o.from_first, o.before_next)) in
     subst (λ s. IsErr (room_from s next undo)) (sym old.1) (refuses_from (nat_le undo (next - old.0.first)) (record { first = old.0.first; next = next }) next full)
@@ -65,7 +65,7 @@ overwrites_from own is header (Some o) e err =
       next - undo,
       record {
         within = few;
-        open_now = active;
+        active = active;
         from_first = omega (arith, full, first, is.layout.some_undo, one);
         before_next = omega (arith, full, first, is.layout.some_undo, one);
         one_place = ring_before undo next (omega (arith, full, first, is.layout.some_undo, one));

@@ -4,11 +4,11 @@ use Rattle.undo_image.specs.Header.{slot_at}
 use Rattle.undo_segment.specs.Look.{is_active}
 use Rattle.undo_segment.specs.Segment.{SegmentState}
 
--- The next undo record would take the place of the one with this sequence number, which the open transaction in this slot
--- may have written: it is from the transaction's first on.
+-- The next undo record would take the place of the one with this sequence number, which is no earlier than the first of
+-- the open transaction in this slot.
 pub record Overwrites (own : SegmentState) (slot seq : ℕ) : Type 0 where
   pub within : slot < 8
-  pub open_now : IsTrue (is_active (slot_at own.head slot).state)
+  pub active : IsTrue (is_active (slot_at own.head slot).state)
   pub from_first : (slot_at own.head slot).first ≤ seq
   pub before_next : seq < own.head.front.next
   pub one_place : (seq - 1) % own.layout.undo ≡ (own.head.front.next - 1) % own.layout.undo
