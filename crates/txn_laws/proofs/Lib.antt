@@ -1,0 +1,5 @@
+pub mod MadeLemmas
+pub mod BackLemmas
+pub mod BlockLemmas
+pub mod SegmentLemmas
+pub mod LawLemmas
