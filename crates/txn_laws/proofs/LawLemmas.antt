@@ -24,10 +24,10 @@ use Rattle.txn_laws.proofs.MadeLemmas.{decided_is_made}
 use Rattle.txn_laws.proofs.SegmentLemmas.{undo_stands}
 
 -- the change of a case, and the record that takes it back, by the plan of the change
-abbrev made_by : OnHand → Plan → Redo
+abbrev pub made_by : OnHand → Plan → Redo
 made_by hand plan = change_record hand.ask plan hand.image hand.segment (hand.clock.scn + 1)
 
-abbrev undo_by : OnHand → Plan → UndoRecord
+abbrev pub undo_by : OnHand → Plan → UndoRecord
 undo_by hand plan = undo_made hand.ask plan hand.image hand.segment.head
 
 abbrev back_by : OnHand → Plan → ℕ → Clock → Redo
@@ -42,18 +42,18 @@ pub record IsPlanned (hand : OnHand) (change : Redo) (at : ℕ) (later : Clock) 
   pub back_made : back_by hand plan at later ≡ back
 
 -- the header's slot has the change's undo record as the last one
-last_after : (hand : OnHand) (plan : Plan) (at : ℕ) → length hand.segment.head.slots ≡ 8 → plan.xid.slot < 8
+pub last_after : (hand : OnHand) (plan : Plan) (at : ℕ) → length hand.segment.head.slots ≡ 8 → plan.xid.slot < 8
     → slot_at (segment_applied hand.segment (made_by hand plan) at).head plan.xid.slot ≡ slot_after hand.ask.own (slot_at hand.segment.head plan.xid.slot) plan.xid.wrap hand.segment.head.front.next
 unfolding change_record head_change
 last_after hand plan at eight slot =
     get_or-set_same hand.segment.head.slots plan.xid.slot (slot_after hand.ask.own (slot_at hand.segment.head plan.xid.slot) plan.xid.wrap hand.segment.head.front.next) never_slot (omega arith)
 
-next_of_slot_after : (hand : OnHand) (plan : Plan) → (slot_after hand.ask.own (slot_at hand.segment.head plan.xid.slot) plan.xid.wrap hand.segment.head.front.next).last ≡ hand.segment.head.front.next
+pub next_of_slot_after : (hand : OnHand) (plan : Plan) → (slot_after hand.ask.own (slot_at hand.segment.head plan.xid.slot) plan.xid.wrap hand.segment.head.front.next).last ≡ hand.segment.head.front.next
 unfolding slot_after
 next_of_slot_after hand plan = refl
 
 -- the change's undo record stands in its place
-placed : (hand : OnHand) (plan : Plan) (at : ℕ) → AreWhole hand → undo_at (segment_applied hand.segment (made_by hand plan) at) hand.segment.head.front.next ≡ Some (undo_by hand plan)
+pub placed : (hand : OnHand) (plan : Plan) (at : ℕ) → AreWhole hand → undo_at (segment_applied hand.segment (made_by hand plan) at) hand.segment.head.front.next ≡ Some (undo_by hand plan)
 unfolding change_record undo_change undo_made
 placed hand plan at whole =
     let next = hand.segment.head.front.next in
@@ -76,7 +76,7 @@ planned_by hand change at later back plan u whole made takes =
       back_made = ap (λ (v : UndoRecord). back_record plan.xid v after.head (image_after hand.image (made_by hand plan)) (later.scn + 1)) same ∙ takes.is;
     }
 
-xid_of_made : (hand : OnHand) (plan : Plan) → (made_by hand plan).xid ≡ plan.xid
+pub xid_of_made : (hand : OnHand) (plan : Plan) → (made_by hand plan).xid ≡ plan.xid
 unfolding change_record
 xid_of_made hand plan = refl
 
@@ -103,7 +103,7 @@ row_back_is : (hand : OnHand) (plan : Plan) (image : BlockContent)
 unfolding row_back undo_made row_made
 row_back_is hand plan image = refl
 
-within_rows : (hand : OnHand) (plan : Plan) → AreWhole hand → (row_made hand.ask plan hand.segment.head.front.next).row < length hand.image.rows
+pub within_rows : (hand : OnHand) (plan : Plan) → AreWhole hand → (row_made hand.ask plan hand.segment.head.front.next).row < length hand.image.rows
 unfolding row_made
 within_rows hand plan whole =
     let eight = whole.block.eight_rows in
@@ -137,7 +137,7 @@ lock_by : (mine : Bool) (a b : ℕ) → a ≡ b → cond mine a 0 ≡ cond mine 
 lock_by mine a b same = ap (λ (lock : ℕ). cond mine lock 0) same
 
 -- the lock byte that the step back leaves the row
-row_lock_is : (hand : OnHand) (plan : Plan) (scn : Scn) → AreWhole hand
+pub row_lock_is : (hand : OnHand) (plan : Plan) (scn : Scn) → AreWhole hand
     → lock_back (applied hand.image (row_made hand.ask plan hand.segment.head.front.next) scn) (undo_by hand plan) ≡ row_lock plan.xid hand.image (row_made hand.ask plan hand.segment.head.front.next)
 unfolding undo_made row_made
 row_lock_is hand plan scn whole =

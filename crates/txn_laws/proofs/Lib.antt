@@ -1,5 +1,7 @@
-pub mod MadeLemmas
 pub mod BackLemmas
 pub mod BlockLemmas
-pub mod SegmentLemmas
+pub mod ChoiceLemmas
+pub mod ComesLemmas
 pub mod LawLemmas
+pub mod MadeLemmas
+pub mod SegmentLemmas

@@ -20,7 +20,7 @@ use Rattle.scn_clock.specs.declared.clock.Clock.{Clock}
 use Rattle.journal.specs.declared.cause.Cause.{Cause}
 use Rattle.txn_engine.specs.declared.ask.ChangeAsk.{ChangeAsk}
 use Rattle.txn_engine.specs.declared.ask.Decision.{Decision}
-use Rattle.txn_engine.specs.declared.ask.Decision.TheVariants.{Do, ForceFirst, Restart}
+use Rattle.txn_engine.specs.declared.ask.Decision.TheVariants.{Bad, Do, ForceFirst, Restart}
 use Rattle.txn_engine.specs.declared.made.Plan.{Plan}
 use Rattle.txn_engine.specs.Change.{change_decision, change_record, free_decision, is_lock, is_within_limits, late_decision, lock_decision, may_wait, own_or_next, room_decision, slot_decision, txn_decision, value_after, value_decision}
 
@@ -89,3 +89,27 @@ pub decided_is_made : (ask : ChangeAsk) (image : BlockContent) (segment : Segmen
 decided_is_made ask image segment handed clock on_disk r h =
     by_either (is_within_limits ask image segment clock) (lock_decision (lock_row ask.own (look segment handed) image (ask.row % 8)) ask image segment handed clock on_disk) _ r (IsMade ask image segment handed clock r) h
     (λ within. by_lock (lock_row ask.own (look segment handed) image (ask.row % 8)) ask image segment handed clock on_disk r within) (λ bad. absurd cc)
+
+within_by : (b : Bool) (one : Decision) (r : Redo) → cond b one Bad ≡ Do r → (b ≡ true) × (one ≡ Do r)
+within_by true one r h = (refl, h)
+within_by false one r h = absurd cc
+
+-- each record is decided within the limits
+pub decided_within : (ask : ChangeAsk) (image : BlockContent) (segment : SegmentState) (handed : HandedState) (clock : Clock) (on_disk : Scn) (r : Redo) → change_decision ask image segment handed clock on_disk ≡ Do r
+    → is_within_limits ask image segment clock ≡ true
+decided_within ask image segment handed clock on_disk r h =
+    (within_by (is_within_limits ask image segment clock) (lock_decision (lock_row ask.own (look segment handed) image (ask.row % 8)) ask image segment handed clock on_disk) r h).0
+
+unheld_by : (answer : LockAnswer) (x : Xid) (ask : ChangeAsk) (image : BlockContent) (segment : SegmentState) (handed : HandedState) (clock : Clock) (on_disk : Scn) (r : Redo)
+    → answer ≡ locks.Held x → lock_decision answer ask image segment handed clock on_disk ≡ Do r → ⊥
+unheld_by (locks.Need wanted) x ask image segment handed clock on_disk r is h = cc
+unheld_by (locks.Held y) x ask image segment handed clock on_disk r is h = cc
+unheld_by locks.Mine x ask image segment handed clock on_disk r is h = cc
+unheld_by (locks.Free released) x ask image segment handed clock on_disk r is h = cc
+
+-- each record is decided where nobody else holds the row
+pub decided_unheld : (ask : ChangeAsk) (image : BlockContent) (segment : SegmentState) (handed : HandedState) (clock : Clock) (on_disk : Scn) (r : Redo) (x : Xid) → change_decision ask image segment handed clock on_disk ≡ Do r
+    → lock_row ask.own (look segment handed) image (ask.row % 8) ≡ locks.Held x → ⊥
+decided_unheld ask image segment handed clock on_disk r x h held =
+    let answer = lock_row ask.own (look segment handed) image (ask.row % 8) in
+    unheld_by answer x ask image segment handed clock on_disk r held (within_by (is_within_limits ask image segment clock) (lock_decision answer ask image segment handed clock on_disk) r h).1

@@ -1,5 +1,5 @@
 -- A change or a lock that was decided and made, and then was taken back.
-use Rattle.std.specs.Prelude.{◌≡◌, ℕ, ◌==◌, ◌&&◌, if◌then◌else◌, List, map, Option, None, Some, slice_set}
+use Rattle.std.specs.Prelude.{◌≡◌, ℕ, ◌+◌, ◌-◌, ◌^◌, ◌<◌, ◌==◌, ◌&&◌, true, if◌then◌else◌, List, map, Option, None, Some, slice_set}
 use Rattle.base_types.specs.declared.names.Scn.{Scn}
 use Rattle.base_types.specs.declared.names.Xid.{Xid}
 use Rattle.redo_types.specs.declared.blocks.RowChange.{RowChange}
@@ -18,6 +18,7 @@ use Rattle.txn_engine.specs.declared.ask.Decision.{Decision}
 use Rattle.txn_engine.specs.declared.ask.Decision.TheVariants.{Do}
 use Rattle.txn_engine.specs.Back.{back_decision, locks_of}
 use Rattle.txn_engine.specs.Change.{change_decision, holds}
+use Rattle.txn_engine.specs.Limits.{may_rise}
 use Rattle.txn_engine.specs.Parts.{undo_block_at}
 
 -- what a change is decided on: what is asked, an image of the block, the own segment, what was handed in of others, the
@@ -61,6 +62,16 @@ pub record IsTakenBack (hand : OnHand) (change : Redo) (at : ℕ) (later : Clock
   pub whole : AreWhole hand
   pub made : decided hand ≡ Do change
   pub taken_back : decided_back hand change at later ≡ Some back
+
+-- On what is whole a change was decided, and no number is at its limit after it: not the clock of the later time, the
+-- version of the block or of the header, nor how often the slot of the transaction was taken.
+pub record MayTakeBack (hand : OnHand) (change : Redo) (later : Clock) : Type 0 where
+  pub whole : AreWhole hand
+  pub made : decided hand ≡ Do change
+  pub clock : may_rise later.scn ≡ true
+  pub image : may_rise (hand.image.front.version + 1) ≡ true
+  pub head : may_rise (hand.segment.head.front.version + 1) ≡ true
+  pub wrap : change.xid.wrap < 2 ^ 32 - 1
 
 -- the block after the change and the record that takes it back
 abbrev pub block_after : OnHand → Redo → Redo → BlockContent

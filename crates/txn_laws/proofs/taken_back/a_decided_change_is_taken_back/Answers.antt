@@ -1,3 +1,4 @@
+use Rattle.txn_laws.proofs.ComesLemmas.{comes_back}
 use Rattle.txn_laws.proofs.LawLemmas.{last_as_before, locks_as_left, slots_as_before, values_as_before}
 use Rattle.txn_laws.proofs.taken_back.a_decided_change_is_taken_back.Goals as goal
 
@@ -12,3 +13,6 @@ returns-clause-locks c = locks_as_left
 
 pub returns-clause-last : goal.returns-clause-last
 returns-clause-last c = last_as_before
+
+pub returns-clause-comes : goal.returns-clause-comes
+returns-clause-comes c = comes_back
