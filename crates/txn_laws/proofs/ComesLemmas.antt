@@ -1,8 +1,7 @@
 -- A change that was decided can be taken back.
-use Rattle.std.proofs.Common.{◌≡◌, ℕ, ◌+◌, ◌-◌, ◌%◌, ◌^◌, ◌==◌, ◌<◌, ◌≤◌, ◌⊎◌, inl, inr, Bool, true, false, not, cond, set, refl, sym, ap, subst, ◌∙◌, arith, Option, None, Some}
+use Rattle.std.proofs.Common.{◌≡◌, ℕ, ◌+◌, ◌-◌, ◌%◌, ◌==◌, ◌<◌, ◌≤◌, ◌⊎◌, inl, inr, Bool, true, not, cond, set, refl, ap, subst, ◌∙◌, arith, Option, None, Some}
 use Rattle.std.specs.Prelude.{is_some, nat_le}
 use Rattle.std.specs.List.{list_all}
-use Rattle.std.proofs.Math.Nat.{mod-lt}
 use Rattle.std.proofs.lemmas.Bool.{and_from, cases_eq, eq-eqb, le-leb, lt-ltb, ne_eqb, not_from_false, or_left, or_right}
 use Rattle.std.proofs.lemmas.List.{get_or-set_same}
 use Rattle.base_types.specs.declared.names.Xid.{Xid}
@@ -17,32 +16,20 @@ use Rattle.block_image.specs.Changes.{applied}
 use Rattle.undo_image.specs.Header.{HeaderContent, IsHeader, slot_at}
 use Rattle.undo_segment.specs.Apply.{applied as segment_applied}
 use Rattle.undo_segment.specs.Look.{is_active}
-use Rattle.undo_segment.specs.Segment.{SegmentState, look}
+use Rattle.undo_segment.specs.Segment.{SegmentState}
 use Rattle.scn_clock.specs.declared.clock.Clock.{Clock}
-use Rattle.txn_slots.specs.declared.choice.SlotAnswer.TheVariants.{Take}
 use Rattle.journal.proofs.XidLemmas.{both_true, same_xid-refl}
 use Rattle.txn_engine.specs.declared.back.NextBack.TheVariants.{Undo}
 use Rattle.txn_engine.specs.declared.made.Plan.{Plan}
 use Rattle.txn_engine.specs.Back.{back_decision, is_undo_of, keeps_locks, lets_go, lock_back, locks_of, may_step_back, names_undo, next_back, stands_from}
-use Rattle.txn_engine.specs.Change.{change_record, holds, own_or_next, row_made, slot_after, stood_last, undo_made}
-use Rattle.txn_engine.specs.Limits.{is_data_block, is_under_way, may_go_on, may_rise}
+use Rattle.txn_engine.specs.Change.{change_record, row_made, slot_after, stood_last, undo_made}
+use Rattle.txn_engine.specs.Limits.{is_under_way, may_go_on, may_rise}
 use Rattle.txn_engine.specs.Parts.{data_change, undo_at}
 use Rattle.txn_engine.proofs.LimitLemmas.{active_has, slot_is, under_way}
 use Rattle.txn_laws.specs.TakenBack.{AreWhole, MayTakeBack, OnHand, decided_back, image_after}
 use Rattle.txn_laws.proofs.BlockLemmas.{none_names}
-use Rattle.txn_laws.proofs.ChoiceLemmas.{IsTold, chosen, fresh_isnt_held, told, unused_is_fresh}
+use Rattle.txn_laws.proofs.KnownLemmas.{IsKnown, known_plan}
 use Rattle.txn_laws.proofs.LawLemmas.{last_after, made_by, next_of_slot_after, placed, row_lock_is, undo_by, xid_of_made}
-use Rattle.txn_laws.proofs.MadeLemmas.{decided_is_made, decided_unheld, decided_within}
-
--- what is known of a change that was decided
-record IsKnown (hand : OnHand) (plan : Plan) : Type 0 where
-  pub told : IsTold hand.ask.own hand.segment plan.xid
-  pub go : may_go_on hand.segment.head hand.ask.own ≡ true
-  pub block : is_data_block hand.image ≡ true
-  pub some_itl : 1 ≤ plan.itl
-  pub itl : plan.itl ≤ 4
-  pub unused : (itl_at hand.image.itl plan.itl).xid.wrap ≡ 0 → plan.fresh ≡ true
-  pub unheld : plan.fresh ≡ true → holds plan.xid hand.image (hand.ask.row % 8) ≡ false
 
 under_way_by : (head : HeaderContent) (x : Xid) → x.seg ≡ head.front.seg → x.slot < 8 → (slot_at head x.slot).wrap ≡ x.wrap → (slot_at head x.slot).state ≡ Active → is_under_way head x ≡ true
 under_way_by head x seg slot wrap state =
@@ -148,20 +135,16 @@ prev_of : (hand : OnHand) (plan : Plan) → (undo_by hand plan).prev ≡ stood_l
 unfolding undo_made
 prev_of hand plan = refl
 
-own_is : (own : Option Xid) (segment : SegmentState) (x : Xid) → own_or_next own segment ≡ Some x → (own ≡ None) ⊎ (own ≡ Some x)
-own_is None segment x named = inl refl
-own_is (Some y) segment x named = inr named
-
-steps_back : (hand : OnHand) (plan : Plan) (at : ℕ) (later : Clock) → AreWhole hand → IsKnown hand plan → own_or_next hand.ask.own hand.segment ≡ Some plan.xid
+steps_back : (hand : OnHand) (plan : Plan) (at : ℕ) (later : Clock) → AreWhole hand → IsKnown hand plan
     → may_rise later.scn ≡ true → may_rise (hand.image.front.version + 1) ≡ true → may_rise (hand.segment.head.front.version + 1) ≡ true
     → may_step_back plan.xid (undo_by hand plan) (segment_applied hand.segment (made_by hand plan) at).head (changed hand plan) later ≡ true
-steps_back hand plan at later whole known named clock image head =
+steps_back hand plan at later whole known clock image head =
     let x = plan.xid in
     let after = (segment_applied hand.segment (made_by hand plan) at).head in
     let next = hand.segment.head.front.next in
     let stands : stands_from (slot_at after x.slot) (undo_by hand plan) ≡ true =
     ap (λ (s : TxnSlot). stands_from s (undo_by hand plan)) (last_after hand plan at whole.head.slots.eight known.told.slot)
-    ∙ stands_in hand.ask.own hand.segment.head x x.wrap next (undo_by hand plan) whole.head known.go (own_is hand.ask.own hand.segment x named) (prev_of hand plan) in
+    ∙ stands_in hand.ask.own hand.segment.head x x.wrap next (undo_by hand plan) whole.head known.go known.own (prev_of hand plan) in
     and_from _ _ (and_from _ _ (and_from _ _ (and_from _ _ (and_from _ _ (and_from _ _ (and_from _ _ known.block (block_same hand plan)) (names_by hand plan whole known)) (keeps_by hand plan whole known)) stands) clock) head) image
 
 some_back : (x : Xid) (segment : SegmentState) (image : BlockContent) (clock : Clock) (u : UndoRecord) → next_back x segment ≡ Undo u → may_step_back x u segment.head image clock ≡ true → is_some (back_decision x segment image clock) ≡ true
@@ -170,28 +153,10 @@ some_back x segment image clock u next may = rw (next, may) refl
 pub comes_back : (hand : OnHand) (change : Redo) (at : ℕ) (later : Clock) → MayTakeBack hand change later → is_some (decided_back hand change at later) ≡ true
 comes_back hand change at later may =
     let whole = may.whole in
-    let made = decided_is_made hand.ask hand.image hand.segment hand.handed hand.clock hand.on_disk change may.made in
-    let within = decided_within hand.ask hand.image hand.segment hand.handed hand.clock hand.on_disk change may.made in
-    let plan = made.plan in
-    let by = made.by in
-    let f = both_true _ _ (both_true _ _ (both_true _ _ (both_true _ _ (both_true _ _ (both_true _ _ within).0).0).0).0).0 in
-    let same : made_by hand plan ≡ change = by.is in
-    let xid : change.xid ≡ plan.xid = ap (λ (r : Redo). r.xid) (sym same) ∙ xid_of_made hand plan in
-    let wrap : plan.xid.wrap < 2 ^ 32 - 1 = subst (λ (x : Xid). x.wrap < 2 ^ 32 - 1) xid may.wrap in
-    let is_told = told hand.ask.own hand.segment plan.xid whole.head f.1 by.xid in
-    let slot = chosen hand.ask.own (look hand.segment hand.handed) hand.image.itl plan.itl plan.fresh whole.block.four_slots by.slot in
-    let known : IsKnown hand plan = record {
-      told = is_told;
-      go = f.1;
-      block = (both_true _ _ f.0).0;
-      some_itl = slot.0;
-      itl = slot.1;
-      unused = unused_is_fresh hand.ask.own (look hand.segment hand.handed) hand.segment.head plan.fresh (itl_at hand.image.itl plan.itl) whole.head f.1 slot.2;
-      unheld = λ fresh. fresh_isnt_held hand.ask.own hand.segment hand.handed hand.image (hand.ask.row % 8) plan.itl plan.xid whole.block (mod-lt hand.ask.row (omega arith)) by.xid is_told wrap
-          (by.slot ∙ ap (Take plan.itl) fresh) (λ y. decided_unheld hand.ask hand.image hand.segment hand.handed hand.clock hand.on_disk change y may.made);
-    } in
+    let by = known_plan hand change whole may.made may.wrap in
+    let plan = by.plan in
     let after = segment_applied hand.segment (made_by hand plan) at in
     let there : is_some (back_decision plan.xid after (changed hand plan) later) ≡ true =
-    some_back plan.xid after (changed hand plan) later (undo_by hand plan) (next_of_made hand plan at whole known) (steps_back hand plan at later whole known by.xid may.clock may.image may.head) in
-    subst (λ (r : Redo). is_some (decided_back hand r at later) ≡ true) same
+    some_back plan.xid after (changed hand plan) later (undo_by hand plan) (next_of_made hand plan at whole by.known) (steps_back hand plan at later whole by.known may.clock may.image may.head) in
+    subst (λ (r : Redo). is_some (decided_back hand r at later) ≡ true) by.made
     (rw (xid_of_made hand plan, image_is hand plan) there)

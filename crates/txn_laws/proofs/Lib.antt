@@ -2,6 +2,8 @@ pub mod BackLemmas
 pub mod BlockLemmas
 pub mod ChoiceLemmas
 pub mod ComesLemmas
+pub mod HeldLemmas
+pub mod KnownLemmas
 pub mod LawLemmas
 pub mod MadeLemmas
 pub mod SegmentLemmas

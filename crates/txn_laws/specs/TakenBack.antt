@@ -1,11 +1,11 @@
 -- A change or a lock that was decided and made, and then was taken back.
-use Rattle.std.specs.Prelude.{◌≡◌, ℕ, ◌+◌, ◌-◌, ◌^◌, ◌<◌, ◌==◌, ◌&&◌, true, if◌then◌else◌, List, map, Option, None, Some, slice_set}
+use Rattle.std.specs.Prelude.{◌≡◌, ℕ, ◌+◌, ◌-◌, ◌^◌, ◌<◌, ◌≤◌, ◌==◌, ◌&&◌, true, if◌then◌else◌, List, map, Option, None, Some, slice_set}
 use Rattle.base_types.specs.declared.names.Scn.{Scn}
 use Rattle.base_types.specs.declared.names.Xid.{Xid}
 use Rattle.redo_types.specs.declared.blocks.RowChange.{RowChange}
 use Rattle.redo_types.specs.declared.redo.DataChange.{DataChange}
 use Rattle.redo_types.specs.declared.redo.Redo.{Redo}
-use Rattle.block_image.specs.Block.{BlockContent, IsBlock}
+use Rattle.block_image.specs.Block.{BlockContent, IsBlock, slot_at}
 use Rattle.block_image.specs.Changes.{applied}
 use Rattle.undo_image.specs.Header.{IsHeader}
 use Rattle.undo_image.specs.UndoBlock.{IsUndoBlock}
@@ -92,3 +92,8 @@ row_lock x image change = if holds x image change.row then change.itl else 0
 -- the lock bytes after a change was taken back
 abbrev pub locks_left : Xid → BlockContent → RowChange → List ℕ
 locks_left x image change = slice_set (map (other_lock change) (locks_of image)) change.row (row_lock x image change)
+
+-- A transaction has no more than one ITL slot in a block.
+abbrev pub HasOneSlot : BlockContent → Xid → Type 0
+HasOneSlot image x =
+    (j k : ℕ) → 1 ≤ j → j ≤ 4 → 1 ≤ k → k ≤ 4 → (slot_at image.itl j).xid ≡ x → (slot_at image.itl k).xid ≡ x → j ≡ k

@@ -1,4 +1,5 @@
 use Rattle.txn_laws.proofs.ComesLemmas.{comes_back}
+use Rattle.txn_laws.proofs.HeldLemmas.{held_as_before}
 use Rattle.txn_laws.proofs.LawLemmas.{last_as_before, locks_as_left, slots_as_before, values_as_before}
 use Rattle.txn_laws.proofs.taken_back.a_decided_change_is_taken_back.Goals as goal
 
@@ -16,3 +17,6 @@ returns-clause-last c = last_as_before
 
 pub returns-clause-comes : goal.returns-clause-comes
 returns-clause-comes c = comes_back
+
+pub returns-clause-held : goal.returns-clause-held
+returns-clause-held c = held_as_before
