@@ -1,0 +1,9 @@
+pub mod BackLemmas
+pub mod BlockLemmas
+pub mod ChoiceLemmas
+pub mod ComesLemmas
+pub mod HeldLemmas
+pub mod KnownLemmas
+pub mod LawLemmas
+pub mod MadeLemmas
+pub mod SegmentLemmas
