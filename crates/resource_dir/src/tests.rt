@@ -5,7 +5,7 @@ use std::alloc::{AllocError, Global};
 use std::fmt::Write;
 use std::process::Abort;
 use std::test::Fail;
-use wire_net::{Entry, Frame, Masters, Mode, PastHolder, Report, Unfound};
+use wire_net::{Entry, Frame, Holder, Masters, Mode, PastHolder, Report, Unfound};
 
 const BLOCK: BlockNo = BlockNo(5);
 
@@ -89,6 +89,26 @@ fn expect_step(
     assert_eq!(rt; text.as_str(), sent, "at {message:?}");
     let text = shown(alloc, entry)?;
     assert_eq!(rt; text.as_str(), after, "at {message:?}");
+    Ok(())
+}
+
+#[test]
+fn a_reader_beside_a_writer_gets_a_copy(rt: HostRuntime) -> Result<(), Fail> {
+    let alloc = rt.alloc();
+    let mut entry = Entry::new(alloc);
+    entry.x = Some(Holder {
+        inst: InstNo(1),
+        grant: 1,
+    });
+    entry.next_grant = 2;
+    let asks = Message::Ask {
+        block: BLOCK,
+        mode: Mode::Shared,
+        held: Mode::Null,
+        asker: InstNo(3),
+    };
+    let sent = "1 CopyTo { block: BlockNo(5), grant: 1, reader: InstNo(3) }; ";
+    expect_step(&rt, alloc, &mut entry, &asks, sent, "x1@1 w0 n2 q0")?;
     Ok(())
 }
 
