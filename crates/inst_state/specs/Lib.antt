@@ -1,0 +1,10 @@
+pub mod Controls
+pub mod Hand
+pub mod Lent
+pub mod Lines
+pub mod Needs
+pub mod Records
+pub mod Sending
+pub mod Sessions
+pub mod Shared
+pub mod State
