@@ -1,5 +1,5 @@
 ghost use Rattle.std.specs.Prelude.{◌≡◌, ◌==◌, ◌<◌, ◌↔◌, ◌∷◌, ◌++◌, [], IfSome, IsSome, OnErr, OnOk, OnSome, length, slice_get, slice_index_or};
-ghost use Rattle.std.specs.Option.{option_copied};
+ghost use Rattle.std.specs.Option.{option_copied, option_copied_mut};
 
 use base_types::NoMemory;
 use std::alloc::Global;
@@ -73,6 +73,7 @@ impl<T: Drop> Table<T> {
         ensures* writes_back { sem 𝓛 (lends_item T.row self.entry at result) }
         ensures variant { IsSome result ↔ (at < length self.old) }
         ensures item { IfSome result (λ x. x.now ≡ slice_index_or self.old at x.now) }
+        ensures value { option_copied_mut result ≡ slice_get self.old at }
     {
         self.items.get_mut(at)
     }
