@@ -1,8 +1,9 @@
-ghost use Rattle.std.specs.Prelude.{◌<◌, ◌≤◌};
+ghost use Rattle.std.specs.Prelude.{◌≡◌, ◌<◌, ◌≤◌};
+ghost use Rattle.base_types.specs.Layout.{IsLayout};
 
 use crate::line::Line;
 use crate::table::Table;
-use base_types::{InstNo, Sequence};
+use base_types::{InstNo, Layout, Sequence};
 use undo_segment::Handed;
 
 /// A session that is opened in a wave.
@@ -17,6 +18,8 @@ pub struct Opening {
 pub struct Plan {
     /// The number of the instance, its redo thread and its undo segment.
     pub me: InstNo,
+    /// How the disk is laid out.
+    pub layout: Layout,
     /// How many frames its cache has.
     pub frames: u8,
     /// How many data blocks there are.
@@ -29,6 +32,8 @@ pub struct Plan {
     pub openings: Sequence<Opening>,
     /// What a statement has at hand that was handed nothing.
     pub nothing: Handed,
+    ghost laid_out: { IsLayout layout },
+    ghost known: { me < layout.instances },
     ghost numbered: { me < 8 },
     ghost some_frames: { 1 ≤ frames },
     ghost few_blocks: { blocks ≤ 64 },
