@@ -1,0 +1,5 @@
+pub mod Ask
+pub mod AskWrite
+pub mod Evict
+pub mod Frames
+pub mod Sends
