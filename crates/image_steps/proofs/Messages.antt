@@ -1,5 +1,5 @@
 -- Messages that are sent one by one.
-use Rattle.std.proofs.Common.{◌≡◌, ℕ, List, [], ◌∷◌, drop, slice_get, Option, None, Some}
+use Rattle.std.proofs.Common.{◌≡◌, ℕ, List, [], ◌∷◌, drop, slice_get, None, Some}
 use Rattle.wire_net.specs.declared.message.Message.{Message}
 use Rattle.inst_state.specs.declared.inst.Inst.{Inst}
 use Rattle.inst_state.specs.declared.shared.Core.{Core}

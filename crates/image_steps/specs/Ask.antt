@@ -1,5 +1,5 @@
 -- A block is asked for.
-use Rattle.std.specs.Prelude.{ℕ, ◌==◌, ◌&&◌, ◌||◌, not, nat_lt, if◌then◌else◌, Bool, true, false, Option, None, Some, is_none, is_some}
+use Rattle.std.specs.Prelude.{ℕ, ◌==◌, ◌&&◌, ◌||◌, not, nat_lt, if◌then◌else◌, Bool, false, Option, None, Some, is_none, is_some}
 use Rattle.std.specs.List.{list_any}
 use Rattle.wire_net.specs.declared.message.Message.TheVariants.{Ask}
 use Rattle.wire_net.specs.declared.message.Mode.{Mode}

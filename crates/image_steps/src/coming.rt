@@ -223,11 +223,13 @@ fn take_undo_for(alloc: Global, inst: &mut Inst, z: usize, image: UndoImage) -> 
 fn take_message(alloc: Global, inst: &mut Inst, message: Message) -> Result<(), NoMemory>
     ensures { OnOk result (inst.new ≡ came_by inst.old (Some message)) }
 {
-    match message {
-        Message::Copy { image, upto } => take_image(alloc, inst, image, upto),
-        Message::UndoIs { image, job } => take_undo_for(alloc, inst, usize::from(job), image),
-        _ => Ok(()),
-    }
+    let Message::Copy { image, upto } = message else {
+        let Message::UndoIs { image, job } = message else {
+            return Ok(());
+        };
+        return take_undo_for(alloc, inst, usize::from(job), image);
+    };
+    take_image(alloc, inst, image, upto)
 }
 
 ghost use Rattle.std.specs.Prelude.{Some};

@@ -25,11 +25,13 @@ fn copy_order_of(message: Option<&Message>) -> Option<CopyOrder>
     ensures { result ≡ copy_order_of (option_copied message.entry) }
 {
     match message {
-        Some(Message::CopyTo {
-            block,
-            grant,
-            reader,
-        }) => Some(CopyOrder {
+        Some(
+            Message::CopyTo {
+                block,
+                grant,
+                reader,
+            },
+        ) => Some(CopyOrder {
             block: *block,
             grant: *grant,
             reader: *reader,

@@ -34,7 +34,9 @@ pub fn master_block(message: &Message) -> Option<BlockNo>
         Message::GaveUp { block, .. } => Some(*block),
         Message::Wrote { block, .. } => Some(*block),
         Message::WritePlease {
-            block, grant: None, ..
+            block,
+            grant: None,
+            ..
         } => Some(*block),
         Message::Back(unfound) => Some(unfound_block(unfound)),
         _ => None,

@@ -39,12 +39,14 @@ fn past_order_of(message: Option<&Message>) -> Option<PastOrder>
             block: *block,
             version: *version,
         }),
-        Some(Message::WritePlease {
-            block,
-            version,
-            holder,
-            grant: Some(grant),
-        }) => Some(PastOrder::Write(Plea {
+        Some(
+            Message::WritePlease {
+                block,
+                version,
+                holder,
+                grant: Some(grant),
+            },
+        ) => Some(PastOrder::Write(Plea {
             block: *block,
             version: *version,
             holder: *holder,

@@ -29,24 +29,28 @@ fn order_of(message: Option<&Message>) -> Option<Order>
     ensures { result ≡ order_of (option_copied message.entry) }
 {
     match message {
-        Some(Message::ShipTo {
-            block,
-            grant,
-            new_grant,
-            asker,
-        }) => Some(Order {
+        Some(
+            Message::ShipTo {
+                block,
+                grant,
+                new_grant,
+                asker,
+            },
+        ) => Some(Order {
             block: *block,
             grant: *grant,
             new_grant: *new_grant,
             asker: *asker,
             shared: false,
         }),
-        Some(Message::ShareTo {
-            block,
-            grant,
-            new_grant,
-            asker,
-        }) => Some(Order {
+        Some(
+            Message::ShareTo {
+                block,
+                grant,
+                new_grant,
+                asker,
+            },
+        ) => Some(Order {
             block: *block,
             grant: *grant,
             new_grant: *new_grant,

@@ -1,4 +1,3 @@
-use Rattle.std.proofs.Common.{◌≡◌}
 use Rattle.image_steps.specs.Frames.{without_block}
 use Rattle.inst_state.proofs.Mapped.{mapped_more}
 use Rattle.image_steps.proofs.frames.leave_each.Goals as goal
