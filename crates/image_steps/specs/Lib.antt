@@ -1,0 +1,13 @@
+pub mod Ask
+pub mod AskWrite
+pub mod DropPast
+pub mod Evict
+pub mod Frames
+pub mod Hear
+pub mod Invalidate
+pub mod MasterTake
+pub mod Sends
+pub mod ServeCopy
+pub mod ServeUndo
+pub mod Ship
+pub mod TakeCopy
