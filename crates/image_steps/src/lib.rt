@@ -28,4 +28,4 @@ pub use mastering::{master_block, may_take_at_master, take_at_master};
 pub use pasts::{drop_past, may_drop_past};
 pub use plea::{ask_write, may_ask_write};
 pub use shipping::{may_ship, ship};
-pub use undo_serving::{may_serve_undo, serve_undo};
+pub use undo_serving::{may_serve_undo, place_in, serve_undo};
