@@ -36,14 +36,14 @@ abbrev pub may_take_copy : Inst → Core → ℕ → Lane → Bool
 may_take_copy n core from lane = has_come (first_message n core from lane)
 
 -- A block is needed to be read.
-abbrev pub is_read : ℕ → Option Needed → Bool
-is_read block None = false
-is_read block (Some need) = is_shared need.mode && need.block == block
+abbrev pub is_to_read : ℕ → Option Needed → Bool
+is_to_read block None = false
+is_to_read block (Some need) = is_shared need.mode && need.block == block
 
 -- A session's line waits to read a block, and what was changed up to an SCN is all that it sees.
 abbrev pub waits_for_copy : Inst → ℕ → Scn → ℕ → Bool
 waits_for_copy n block upto z =
-    is_read block (needed n z) && nat_le (snapshot_at n z) upto && not (holds n block Shared)
+    is_to_read block (needed n z) && nat_le (snapshot_at n z) upto && not (holds n block Shared)
 
 -- the sessions whose lines wait to read a block and are served by a copy
 abbrev pub waiting : Inst → ℕ → Scn → List ℕ

@@ -5,7 +5,7 @@ ghost use Rattle.std.specs.List.{filter};
 ghost use Rattle.std.specs.Option.{option_copied};
 ghost use Rattle.inst_state.specs.Sessions.{new_session};
 ghost use Rattle.image_steps.specs.Hear.{heard};
-ghost use Rattle.image_steps.specs.TakeCopy.{came_at, came_by, came_dropped, came_for, copy_came, copy_kept, copy_taken, handed_for, handed_in, handed_to, handing, has_come, is_copy_of, is_read, job_with_undo, may_take_copy, undo_came, undo_came_to, waiting, waits_for_copy, with_came, with_undo, without_came};
+ghost use Rattle.image_steps.specs.TakeCopy.{came_at, came_by, came_dropped, came_for, copy_came, copy_kept, copy_taken, handed_for, handed_in, handed_to, handing, has_come, is_copy_of, is_to_read, job_with_undo, may_take_copy, undo_came, undo_came_to, waiting, waits_for_copy, with_came, with_undo, without_came};
 
 use crate::hearing::{first_message, hear};
 use base_types::{BlockNo, InstNo, NoMemory, Scn, Sequence};
@@ -32,8 +32,8 @@ pub fn may_take_copy(inst: &Inst, core: &Core, from: InstNo, lane: Lane) -> bool
     has_come(first_message(inst, core, from, lane))
 }
 
-fn is_read(block: BlockNo, needed: Option<Needed>) -> bool
-    ensures { result ≡ is_read block needed }
+fn is_to_read(block: BlockNo, needed: Option<Needed>) -> bool
+    ensures { result ≡ is_to_read block needed }
 {
     match needed {
         Some(need) => matches!(need.mode, Mode::Shared) && need.block == block,
@@ -46,7 +46,7 @@ fn waits_for_copy(inst: &Inst, block: BlockNo, upto: Scn, z: u16) -> bool
     ensures { result ≡ waits_for_copy inst.now block upto z }
 {
     let z = usize::from(z);
-    is_read(block, inst.needed(z))
+    is_to_read(block, inst.needed(z))
         && inst.snapshot_or_zero(z).get() <= upto.get()
         && !inst.holds(block, Mode::Shared)
 }

@@ -45,8 +45,8 @@ pub fn may_serve_undo(inst: &Inst, core: &Core, from: InstNo) -> bool
     first_undo_order(inst, core, from).is_some() && inst.is_forced()
 }
 
-// The place of a block in a segment, 0 for the header; `None` where it is none of its blocks.
-fn place_in(segment: &Segment, block: BlockNo) -> Option<u8>
+/// The place of a block in a segment, 0 for the header; `None` where it is none of its blocks.
+pub fn place_in(segment: &Segment, block: BlockNo) -> Option<u8>
     ensures place { result ≡ place_in segment.now block }
     ensures within { IfSome result (λ place. place ≤ segment.now.layout.undo / 4) }
 {
