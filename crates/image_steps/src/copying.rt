@@ -71,7 +71,6 @@ ghost use Rattle.inst_state.specs.Hand.{current_image};
 ///
 /// There is no memory for the message.
 pub fn serve_copy(inst: &mut Inst, from: InstNo, core: &mut Core) -> Result<(), NoMemory>
-    requires { may_serve_copy inst.old core.old from ≡ true }
     ensures part { OnOk result (inst.new ≡ hears inst.old core.old from Main) }
     ensures core { OnOk result (core.new ≡ copy_sent inst.old core.old from) }
 {

@@ -36,7 +36,6 @@ pub fn may_evict(inst: &Inst, block: BlockNo) -> bool
 ///
 /// There is no memory for the message.
 pub fn evict(inst: &mut Inst, block: BlockNo, core: &mut Core) -> Result<(), NoMemory>
-    requires { may_evict inst.old block ≡ true }
     ensures part { OnOk result (inst.new ≡ evicted inst.old block) }
     ensures core { OnOk result (core.new ≡ evict_sent inst.old core.old block) }
 {

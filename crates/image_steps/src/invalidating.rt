@@ -79,7 +79,6 @@ ghost use Rattle.std.specs.Prelude.{Some};
 ///
 /// There is no memory for the message.
 pub fn invalidate(inst: &mut Inst, from: InstNo, core: &mut Core) -> Result<(), NoMemory>
-    requires { may_invalidate inst.old core.old from ≡ true }
     ensures part { OnOk result (inst.new ≡ invalidated inst.old core.old from) }
     ensures core { OnOk result (core.new ≡ invalidate_sent inst.old core.old from) }
 {

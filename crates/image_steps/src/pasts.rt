@@ -117,7 +117,6 @@ fn answer_plea(inst: &Inst, plea: &Plea, core: &mut Core) -> Result<(), NoMemory
 ///
 /// There is no memory for the message.
 pub fn drop_past(inst: &mut Inst, from: InstNo, core: &mut Core) -> Result<(), NoMemory>
-    requires { may_drop_past inst.old core.old from ≡ true }
     ensures part { OnOk result (inst.new ≡ past_dropped inst.old core.old from) }
     ensures core { OnOk result (core.new ≡ past_sent inst.old core.old from) }
 {

@@ -70,7 +70,6 @@ pub fn may_ask_write(inst: &Inst, block: BlockNo) -> bool
 ///
 /// There is no memory for the message.
 pub fn ask_write(inst: &mut Inst, block: BlockNo, core: &mut Core) -> Result<(), NoMemory>
-    requires { may_ask_write inst.old block ≡ true }
     ensures part { OnOk result (inst.new ≡ write_asked inst.old block) }
     ensures core { OnOk result (core.new ≡ write_plea_sent inst.old core.old block) }
 {

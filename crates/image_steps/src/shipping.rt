@@ -174,7 +174,6 @@ fn sent_back(order: &Order) -> Message
 ///
 /// There is no memory for the message.
 pub fn ship(inst: &mut Inst, from: InstNo, core: &mut Core) -> Result<(), NoMemory>
-    requires { may_ship inst.old core.old from ≡ true }
     ensures part { OnOk result (inst.new ≡ shipped inst.old core.old from) }
     ensures core { OnOk result (core.new ≡ ship_sent inst.old core.old from) }
 {

@@ -89,7 +89,6 @@ fn undo_image(segment: &Segment, block: BlockNo) -> Option<UndoImage>
 ///
 /// There is no memory for the message.
 pub fn serve_undo(inst: &mut Inst, from: InstNo, core: &mut Core) -> Result<(), NoMemory>
-    requires { may_serve_undo inst.old core.old from ≡ true }
     ensures part { OnOk result (inst.new ≡ hears inst.old core.old from Undo) }
     ensures core { OnOk result (core.new ≡ undo_sent inst.old core.old from) }
 {

@@ -16,6 +16,6 @@ pub use backs::{
     back_decided, dead_back_decided, may_step_back, may_step_back_dead, step_back, step_back_dead,
 };
 pub use changes::{change, change_decided, may_change};
-pub use marks::{dead_job, mark, mark_dead, may_mark, may_mark_dead};
+pub use marks::{dead_job, is_job, mark, mark_dead, may_mark, may_mark_dead};
 pub use starts::{may_start, start};
 pub use visits::{may_visit, read_made, refuse, visit};

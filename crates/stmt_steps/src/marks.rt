@@ -177,7 +177,8 @@ pub fn dead_job(xid: &Xid) -> u64
     job_of(xid.seg, xid.slot)
 }
 
-pub(crate) fn is_job(job: u64, xid: &Option<Xid>) -> bool
+/// Whether a job, if there is a transaction, is this one.
+pub fn is_job(job: u64, xid: &Option<Xid>) -> bool
     ensures { result ≡ is_job job xid.now }
 {
     match xid {
