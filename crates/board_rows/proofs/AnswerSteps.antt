@@ -1,4 +1,5 @@
 -- What was answered stays right, and what is being read too.
+use Rattle.board_rows.proofs.Lists.{clash}
 use Rattle.std.proofs.Common.{◌≡◌, ℕ, zero, suc, ◌+◌, ◌<◌, ◌≤◌, Bool, true, false, cond, ◌==◌, leb, max, List, [], ◌∷◌, ◌++◌, refl, sym, ap, ◌∙◌, subst, arith, inl, inr, ◌⊎◌}
 use Rattle.std.specs.Prelude.{Option, Some, None, IsSomeAnd}
 use Rattle.std.specs.Option.{option_and_then, option_map_or}
@@ -22,7 +23,7 @@ use Rattle.board_rows.specs.Board.{Record, DeedAt, stands, of_xid, Over, stage}
 use Rattle.board_rows.specs.Rows.{on, on_row, deeds_in}
 use Rattle.board_rows.specs.Events.{Scan, put, unread, anew, read_on}
 use Rattle.board_rows.specs.Sound.{RowsAreLate, RowsStand, AreRead, IsRead, ScanIsSeen, Answers}
-use Rattle.board_rows.proofs.Shown.{NoneOn, clash, none-shown, on_row-of_xid}
+use Rattle.board_rows.proofs.Shown.{NoneOn, none-shown, on_row-of_xid}
 use Rattle.board_rows.proofs.Table.{row-entered}
 use Rattle.board_rows.proofs.Replay.{value-below}
 use Rattle.board_rows.proofs.RowSteps.{rows-clear}

@@ -103,7 +103,7 @@ ended w false false e = (cc)
 
 run : Leads asked 2 nothing events (ends_at nothing events)
 unfolding asked
-run = (record { new = refl; within = omega arith }, (record { new = refl; within = omega arith }, (record { home = refl; up = refl; stays = refl; low = omega arith }, (record { started = refl; home = refl; up = refl; low = omega arith; mine = inr (refl, refl, refl); next = refl; last = refl; newest = tt; floor = omega arith; found = refl }, (record { home = refl; up = refl; stays = refl; low = omega arith }, (refl, (record { place = refl; new = omega arith; first = tt }, (record { place = refl; new = omega arith; first = ((λ e. omega arith), tt) }, (omega arith, (tt, (omega arith, (record { mark = refl; commit = refl; durable = omega arith; heard = λ j low is. heard j low }, (record { home = refl; up = refl; stays = refl; low = omega arith }, (record { look = record { home = refl; low = omega arith; image = refl; later = tt; told = ((λ a. inr (refl, λ none. (cc))), tt) }; next = refl }, (record { look = record { home = refl; low = omega arith; image = refl; later = tt; told = ((λ a. absurd (false≢true a)), tt) }; next = refl }, (record { started = refl; range = refl }, (record { home = refl; up = refl; stays = refl; low = omega arith }, (record { started = refl; home = refl; up = refl; low = omega arith; mine = inr (refl, refl, refl); next = refl; last = refl; newest = ((λ a. inr (omega arith)), λ e. tt); floor = omega arith; found = refl }, (record { place = refl; new = omega arith; first = ((λ e. omega arith), ((λ e. omega arith), tt)) }, (record { durable = omega arith; newest = ((λ e. absurd (e refl)), ((λ e. ((λ n. refl), tt)), ((λ e. tt), tt))) }, (record { may = (refl, λ e. absurd (false≢true e)); taken = m; rest = []; newest = refl; number = refl; place = refl; stays = λ e. refl }, (record { may = (refl, λ e. absurd (false≢true e)); none = refl }, (record { place = refl; new = omega arith; first = ((λ e. omega arith), ((λ e. omega arith), ((λ e. omega arith), tt))) }, (record { place = refl; new = omega arith; first = ((λ e. omega arith), ((λ e. omega arith), ((λ e. omega arith), ((λ e. omega arith), tt)))) }, (record { down = refl; durable = omega arith; drawn = ((λ e. omega arith), ((λ e. omega arith), ((λ e. omega arith), ((λ e. omega arith), ((λ e. omega arith), tt))))); low = omega arith }, (record { heard = omega arith; ended = λ w e. ended w (same_xid w x) (same_xid w y); safe = ((λ e. inr (omega arith)), ((λ e. inr (omega arith)), ((λ e. inl refl), ((λ e. inl refl), ((λ e. inl refl), tt))))) }, (record { new = refl; within = omega arith }, (record { home = refl; up = refl; stays = refl; low = omega arith }, (record { look = record { home = refl; low = omega arith; image = refl; later = ((λ a. absurd (false≢true a)), ((λ a. (omega arith, refl)), ((λ a. (omega arith, refl)), tt))); told = ((λ a. inr (refl, λ none. (cc))), tt) }; next = refl }, (record { look = record { home = refl; low = omega arith; image = refl; later = ((λ a. absurd (false≢true a)), ((λ a. absurd (false≢true a)), ((λ a. absurd (false≢true a)), tt))); told = ((λ a. absurd (false≢true a)), tt) }; next = refl }, (record { started = refl; range = refl }, refl)))))))))))))))))))))))))))))))
+run = (record { new = refl; within = omega arith }, (record { new = refl; within = omega arith }, (record { home = refl; up = refl; stays = refl; low = omega arith }, (record { started = refl; home = refl; up = refl; low = omega arith; mine = inr (refl, refl, refl); next = refl; last = refl; newest = tt; floor = omega arith; found = refl }, (record { home = refl; up = refl; stays = refl; low = omega arith }, (refl, (record { place = refl; new = omega arith; first = tt }, (record { place = refl; new = omega arith; first = ((λ e. omega arith), tt) }, (omega arith, (tt, (omega arith, (record { mark = refl; commit = refl; durable = omega arith; heard = λ j low is. heard j low }, (record { home = refl; up = refl; stays = refl; low = omega arith }, (record { look = record { home = refl; low = omega arith; image = refl; later = tt; told = ((λ a. inr (refl, λ none. (cc))), tt) }; next = refl }, (record { look = record { home = refl; low = omega arith; image = refl; later = tt; told = ((λ a. absurd (false≢true a)), tt) }; next = refl }, (record { started = refl; range = refl }, (record { home = refl; up = refl; stays = refl; low = omega arith }, (record { started = refl; home = refl; up = refl; low = omega arith; mine = inr (refl, refl, refl); next = refl; last = refl; newest = ((λ a. inr (omega arith)), λ e. tt); floor = omega arith; found = refl }, (record { place = refl; new = omega arith; first = ((λ e. omega arith), ((λ e. omega arith), tt)) }, (record { durable = omega arith; newest = grind arith }, (record { may = (refl, λ e. absurd (false≢true e)); taken = m; rest = []; newest = refl; number = refl; place = refl; stays = λ e. refl }, (record { may = (refl, λ e. absurd (false≢true e)); none = refl }, (record { place = refl; new = omega arith; first = ((λ e. omega arith), ((λ e. omega arith), ((λ e. omega arith), tt))) }, (record { place = refl; new = omega arith; first = ((λ e. omega arith), ((λ e. omega arith), ((λ e. omega arith), ((λ e. omega arith), tt)))) }, (record { down = refl; durable = omega arith; drawn = ((λ e. omega arith), ((λ e. omega arith), ((λ e. omega arith), ((λ e. omega arith), ((λ e. omega arith), tt))))); low = omega arith }, (record { heard = omega arith; ended = λ w e. ended w (same_xid w x) (same_xid w y); safe = ((λ e. inr (omega arith)), ((λ e. inr (omega arith)), ((λ e. inl refl), ((λ e. inl refl), ((λ e. inl refl), tt))))) }, (record { new = refl; within = omega arith }, (record { home = refl; up = refl; stays = refl; low = omega arith }, (record { look = record { home = refl; low = omega arith; image = refl; later = ((λ a. absurd (false≢true a)), ((λ a. (omega arith, refl)), ((λ a. (omega arith, refl)), tt))); told = ((λ a. inr (refl, λ none. (cc))), tt) }; next = refl }, (record { look = record { home = refl; low = omega arith; image = refl; later = ((λ a. absurd (false≢true a)), ((λ a. absurd (false≢true a)), ((λ a. absurd (false≢true a)), tt))); told = ((λ a. absurd (false≢true a)), tt) }; next = refl }, (record { started = refl; range = refl }, refl)))))))))))))))))))))))))))))))
 
 -- what it tells, the newest entry first
 abbrev journal : List Entry
@@ -181,7 +181,7 @@ losing =
 
 run-losing : Leads asked 2 nothing losing (ends_at nothing losing)
 unfolding asked
-run-losing = (record { new = refl; within = omega arith }, (record { new = refl; within = omega arith }, (record { home = refl; up = refl; stays = refl; low = omega arith }, (record { started = refl; home = refl; up = refl; low = omega arith; mine = inr (refl, refl, refl); next = refl; last = refl; newest = tt; floor = omega arith; found = refl }, (record { new = refl; within = omega arith }, (record { home = refl; up = refl; stays = refl; low = omega arith }, (record { started = refl; home = refl; up = refl; low = omega arith; mine = inr (refl, refl, refl); next = refl; last = refl; newest = ((λ a. absurd (false≢true a)), λ e. tt); floor = omega arith; found = tt }, (record { home = refl; up = refl; stays = refl; low = omega arith }, (refl, (record { durable = omega arith; newest = ((λ e. absurd (e refl)), ((λ e. absurd (e refl)), ((λ e. absurd (e refl)), tt))) }, (record { place = refl; new = omega arith; first = tt }, (record { may = (refl, λ e. absurd (false≢true e)); taken = first_mod; rest = []; newest = refl; number = refl; place = refl; stays = λ e. refl }, (record { may = (refl, λ e. absurd (false≢true e)); none = refl }, (record { place = refl; new = omega arith; first = ((λ e. omega arith), tt) }, (record { place = refl; new = omega arith; first = ((λ e. omega arith), ((λ e. omega arith), tt)) }, (record { down = refl; durable = omega arith; drawn = ((λ e. omega arith), ((λ e. omega arith), ((λ e. omega arith), tt))); low = omega arith }, (record { heard = omega arith; ended = λ w e. rolled w (same_xid w x); safe = ((λ e. inr (omega arith)), ((λ e. inr (omega arith)), ((λ e. inl refl), tt))) }, (record { new = refl; within = omega arith }, (record { home = refl; up = refl; stays = refl; low = omega arith }, (record { home = refl; up = refl; stays = refl; low = omega arith }, (record { started = refl; home = refl; up = refl; low = omega arith; mine = inr (refl, refl, refl); next = refl; last = refl; newest = tt; floor = omega arith; found = tt }, (record { home = refl; up = refl; stays = refl; low = omega arith }, (record { started = refl; home = refl; up = refl; low = omega arith; mine = inl refl; next = refl; last = refl; newest = ((λ a. inl refl), λ e. tt); floor = omega arith; found = refl }, (record { home = refl; up = refl; stays = refl; low = omega arith }, (record { look = record { home = refl; low = omega arith; image = refl; later = tt; told = ((λ a. absurd (false≢true a)), ((λ a. absurd (false≢true a)), tt)) }; next = refl }, (record { look = record { home = refl; low = omega arith; image = refl; later = tt; told = ((λ a. inl refl), ((λ a. inl refl), tt)) }; next = refl }, (record { started = refl; range = refl }, refl)))))))))))))))))))))))))))
+run-losing = (record { new = refl; within = omega arith }, (record { new = refl; within = omega arith }, (record { home = refl; up = refl; stays = refl; low = omega arith }, (record { started = refl; home = refl; up = refl; low = omega arith; mine = inr (refl, refl, refl); next = refl; last = refl; newest = tt; floor = omega arith; found = refl }, (record { new = refl; within = omega arith }, (record { home = refl; up = refl; stays = refl; low = omega arith }, (record { started = refl; home = refl; up = refl; low = omega arith; mine = inr (refl, refl, refl); next = refl; last = refl; newest = ((λ a. absurd (false≢true a)), λ e. tt); floor = omega arith; found = tt }, (record { home = refl; up = refl; stays = refl; low = omega arith }, (refl, (record { durable = omega arith; newest = grind arith }, (record { place = refl; new = omega arith; first = tt }, (record { may = (refl, λ e. absurd (false≢true e)); taken = first_mod; rest = []; newest = refl; number = refl; place = refl; stays = λ e. refl }, (record { may = (refl, λ e. absurd (false≢true e)); none = refl }, (record { place = refl; new = omega arith; first = ((λ e. omega arith), tt) }, (record { place = refl; new = omega arith; first = ((λ e. omega arith), ((λ e. omega arith), tt)) }, (record { down = refl; durable = omega arith; drawn = ((λ e. omega arith), ((λ e. omega arith), ((λ e. omega arith), tt))); low = omega arith }, (record { heard = omega arith; ended = λ w e. rolled w (same_xid w x); safe = ((λ e. inr (omega arith)), ((λ e. inr (omega arith)), ((λ e. inl refl), tt))) }, (record { new = refl; within = omega arith }, (record { home = refl; up = refl; stays = refl; low = omega arith }, (record { home = refl; up = refl; stays = refl; low = omega arith }, (record { started = refl; home = refl; up = refl; low = omega arith; mine = inr (refl, refl, refl); next = refl; last = refl; newest = tt; floor = omega arith; found = tt }, (record { home = refl; up = refl; stays = refl; low = omega arith }, (record { started = refl; home = refl; up = refl; low = omega arith; mine = inl refl; next = refl; last = refl; newest = ((λ a. inl refl), λ e. tt); floor = omega arith; found = refl }, (record { home = refl; up = refl; stays = refl; low = omega arith }, (record { look = record { home = refl; low = omega arith; image = refl; later = tt; told = ((λ a. absurd (false≢true a)), ((λ a. absurd (false≢true a)), tt)) }; next = refl }, (record { look = record { home = refl; low = omega arith; image = refl; later = tt; told = ((λ a. inl refl), ((λ a. inl refl), tt)) }; next = refl }, (record { started = refl; range = refl }, refl)))))))))))))))))))))))))))
 
 abbrev journal-losing : List Entry
 journal-losing =

@@ -1,4 +1,5 @@
 -- A header of a later moment than the image's tells who has committed.
+use Rattle.board_rows.proofs.Lists.{all_append}
 use Rattle.std.proofs.Common.{◌≡◌, ℕ, ◌<◌, ◌≤◌, Bool, true, false, cond, ◌&&◌, leb, List, [], ◌∷◌, ◌++◌, refl, sym, ap, ◌∙◌, subst, arith, inl, inr, ◌⊎◌}
 use Rattle.std.specs.Prelude.{Option, Some, None}
 use Rattle.std.specs.List.{AllByRecursion}
@@ -12,7 +13,7 @@ use Rattle.board_rows.specs.Rows.{on, shown, deeds_in, committed_at, is_up_to, s
 use Rattle.board_rows.specs.Events.{Board, IsLateHere}
 use Rattle.board_rows.specs.Sound.{Sound, Follows, MayFollow}
 use Rattle.board_rows.specs.Headers.{ended, MayTell}
-use Rattle.board_rows.proofs.Shown.{all_append, shown-later, shown-of_xid}
+use Rattle.board_rows.proofs.Shown.{shown-later, shown-of_xid}
 use Rattle.board_rows.proofs.TxnSteps.{stops}
 use Rattle.board_rows.proofs.Losses.{after-stage, after-of_xid}
 

@@ -1,4 +1,5 @@
 -- Every event keeps the board sound.
+use Rattle.board_rows.proofs.Lists.{all_of, all_map, all_both, all_append, clash, suffix_here, suffix_map}
 use Rattle.std.proofs.Common.{◌≡◌, ℕ, suc, ◌+◌, ◌<◌, ◌≤◌, Bool, true, false, cond, ◌&&◌, ◌||◌, ◌==◌, max, leb, List, ◌∷◌, ◌++◌, refl, sym, ap, ◌∙◌, subst, arith, inl, inr, ◌⊎◌}
 use Rattle.std.specs.Prelude.{Option, Some, None, IsSomeAnd}
 use Rattle.std.specs.Option.{option_map_or}
@@ -26,9 +27,8 @@ use Rattle.board_rows.specs.Numbers.{wrap_in, has_end}
 use Rattle.board_rows.specs.Events
 use Rattle.board_rows.specs.Events.{Board, Scan, Event, IsLate, IsNote, MayOpen, MayStart, MayRead, MayChange, MayTakeBack, MayRoll, MayEnd, MaySettle, MayAnswer, MayAck, MayUp, MayJoin, Finds, put, after, entry_of, told, unread, anew, read_on, recorded, is_own, value_there}
 use Rattle.board_rows.specs.Sound.{Sound, ScanIsSeen, Answers, MayGoOn, RowsAreLate, IsMarked, RecordIsIn, Sessions, Follows}
-use Rattle.board_rows.proofs.Shown.{all_map, all_both, all_append, clash}
 use Rattle.board_rows.proofs.Table.{OneMore}
-use Rattle.board_rows.proofs.Order.{suffix_here, suffix_map, same_xid-sym}
+use Rattle.board_rows.proofs.Order.{pair_without, same_xid-sym}
 use Rattle.board_rows.proofs.ClockSteps.{put-here, put-all, put-rises, clocks-records, clocks-raises, clocks-learns, clocks-settles}
 use Rattle.board_rows.proofs.RowSteps.{IsNewest, newest-first, rows-changes, rows-back, rows-ends, rows-settles}
 use Rattle.board_rows.proofs.TxnSteps.{txns-changes, txns-back, txns-marks, txns-rolls, goes-new, active-new, begun-used, active-begun}
@@ -37,7 +37,7 @@ use Rattle.board_rows.proofs.Logged.{logged-quiet, logged-commit, stands-over}
 use Rattle.board_rows.proofs.NumberSteps.{numbers-changes, ended-more}
 use Rattle.board_rows.proofs.Losses.{eqb-sym}
 use Rattle.board_rows.proofs.SegmentSteps.{segments-changes, segments-back, segments-marks, segments-rolls, segments-settles, segments-ups}
-use Rattle.board_rows.proofs.Owns.{under-up, under-back, under-committed-more, under-fresh-all}
+use Rattle.board_rows.proofs.Owns.{under-up, under-committed-more, under-fresh-all}
 use Rattle.board_rows.proofs.LateSteps.{late-reads, late-raises, late-changes, late-back, late-marks, late-rolls, late-settles}
 use Rattle.board_rows.proofs.Look.{changes-free, own-is, live-new, live-low, look-sees, look-late, change-sees, OfRec, stands-from}
 use Rattle.board_rows.proofs.AnswerSteps.{each-read, scan-read, answers-same, settled-same, own-other, unread-seen, scan-anew, anew-at, scan-reads, by_own}
@@ -234,7 +234,7 @@ module _ (asked : ℕ → Option Range) (insts : ℕ) (b : Board) (sound : Sound
     sessions = sound.sessions;
     segments = segments-back sound.segments i (b.clock i + 1) x seq row may.may.0 may.may.1;
     rows = rows-back sound.rows i (b.clock i + 1) x seq row new first.0;
-    owns = λ z y f o. (under-back told_at (started_up_to z b.past) y x seq row (stands b.records) (suffix_here (λ older. FreeUnder told_at (started_up_to z b.past) y (stands older)) b.records (sound.owns z y f o)), sound.owns z y f o);
+    owns = λ z y f o. (pair_without _ x seq row (stands b.records) (suffix_here (λ older. FreeUnder told_at (started_up_to z b.past) y (stands older)) b.records (sound.owns z y f o)), sound.owns z y f o);
     log_history = sound.log_history;
     numbers = record { numbered = (tt, sound.numbers.numbered); newest = sound.numbers.newest; within = sound.numbers.within; wraps = sound.numbers.wraps; ended = sound.numbers.ended };
     late = late-raises (TakesBack i (b.clock i + 1) x seq row ∷ b.records) b.clock b.floor (λ x. is_open x b.past) (λ x. committed_at x b.past) (put b.clock i (b.clock i + 1)) (rise i)
@@ -482,12 +482,12 @@ module _ (asked : ℕ → Option Range) (insts : ℕ) (b : Board) (sound : Sound
         -- of x itself
         of_x : EachSuffix (λ older. FreeUnder told_at (started_up_to z b.past) x (stands older)) recs
         of_x = elim may.mine [
-          | inl own_x ↦ (let is = own-is z x b.past own_x in let h = sound.owns z x is.0 is.1 in (((λ _. all), suffix_here (λ older. FreeUnder told_at (started_up_to z b.past) x (stands older)) b.records h), h))
-          | inr g ↦ (let h = under-fresh-all told_at (started_up_to z b.past) x b.records g.1 in (((λ _. all), suffix_here (λ older. FreeUnder told_at (started_up_to z b.past) x (stands older)) b.records h), h))
+          | inl own_x ↦ (let is = own-is z x b.past own_x in let h = sound.owns z x is.0 is.1 in ((all_map _ _ (stands b.records) (λ o f e. f) all, suffix_here (λ older. FreeUnder told_at (started_up_to z b.past) x (stands older)) b.records h), h))
+          | inr g ↦ (let h = under-fresh-all told_at (started_up_to z b.past) x b.records g.1 in ((all_map _ _ (stands b.records) (λ o f e. f) all, suffix_here (λ older. FreeUnder told_at (started_up_to z b.past) x (stands older)) b.records h), h))
         ]
 
         other : (y == y) ≡ true → same_xid w x ≡ false → last_of y b.past ≡ Some w → is_open w b.past ≡ true → EachSuffix (λ older. FreeUnder told_at (started_up_to y b.past) w (stands older)) recs
-        other _ off e o = let h = sound.owns y w e o in (((λ g. clash (same_xid w x) g off), suffix_here (λ older. FreeUnder told_at (started_up_to y b.past) w (stands older)) b.records h), h)
+        other _ off e o = let h = sound.owns y w e o in ((all_of _ (stands b.records) (λ o g. clash (same_xid w x) g off), suffix_here (λ older. FreeUnder told_at (started_up_to y b.past) w (stands older)) b.records h), h)
 
         nobody : last_of y b.past ≡ Some x → (z == y) ≡ false → ⊥
         nobody e off = elim mine [

@@ -1,4 +1,5 @@
 -- The loss of an instance keeps the board sound.
+use Rattle.board_rows.proofs.Lists.{all_map, clash, all_filter}
 use Rattle.std.proofs.Common.{◌≡◌, ℕ, ◌<◌, ◌≤◌, Bool, true, false, cond, ◌==◌, List, [], ◌∷◌, refl, sym, ap, ◌∙◌, subst, arith}
 use Rattle.std.specs.Prelude.{Option, Some, None}
 use Rattle.std.specs.List.{AllByRecursion}
@@ -16,10 +17,9 @@ use Rattle.board_rows.specs.Rows.{FreeUnder, deeds_in, committed_at, is_up_to, s
 use Rattle.board_rows.specs.Events
 use Rattle.board_rows.specs.Events.{Board, Loss, Crash, Fault, entry_of_loss, IsLate, MayLose, after, anew, is_kept, kept_of}
 use Rattle.board_rows.specs.Sound.{Sound, Clocks, Sessions, RowsStand, RowsAreLate, ScanIsSeen, EndsBy, CanCommit, RecordIsIn}
-use Rattle.board_rows.proofs.Shown.{all_map, clash}
 use Rattle.board_rows.proofs.AnswerSteps.{own-other as own-same, scan-anew, anew-at, by_own}
 use Rattle.board_rows.proofs.SessionSteps.{push-proper, push-answers, starts-loses}
-use Rattle.board_rows.proofs.Losses.{KeepsUnder, keeps-under, eqb-sym, all_filter, Kept, lost-is, stage-kept, of_xid-kept, own-other, begun-kept, rising-kept}
+use Rattle.board_rows.proofs.Losses.{KeepsUnder, keeps-under, eqb-sym, Kept, lost-is, stage-kept, of_xid-kept, own-other, begun-kept, rising-kept}
 use Rattle.board_rows.proofs.LossTxns.{committed-is, commit-kept, durable-kept, live-kept, over-before, txns-loses}
 use Rattle.board_rows.proofs.Logged.{IsTold, logged-loses}
 use Rattle.board_rows.proofs.NumberSteps.{numbers-loses}

@@ -1,4 +1,5 @@
 -- What was read stays: no later commit changes it.
+use Rattle.board_rows.proofs.Lists.{all_map, all_both, clash}
 use Rattle.std.proofs.Common.{◌≡◌, ℕ, ◌<◌, ◌≤◌, Bool, true, false, cond, ◌==◌, max, List, [], ◌∷◌, refl, sym, arith, inl, inr, ◌⊎◌}
 use Rattle.std.specs.Prelude.{Option, Some, None}
 use Rattle.std.specs.List.{AllByRecursion}
@@ -12,7 +13,6 @@ use Rattle.board_rows.specs.Board.{Record, Does, TakesBack, Commits, RollsBack, 
 use Rattle.board_rows.specs.Rows.{on}
 use Rattle.board_rows.specs.Events.{put, IsLate}
 use Rattle.board_rows.specs.Sound.{RowsAreLate}
-use Rattle.board_rows.proofs.Shown.{all_map, all_both, clash}
 use Rattle.board_rows.proofs.Order.{all_without}
 
 -- what stands is of a transaction with a record

@@ -1,4 +1,5 @@
 -- The history of the journal is that of the logs.
+use Rattle.board_rows.proofs.Lists.{all_map, all_append}
 use Rattle.std.proofs.Common.{◌≡◌, ◌≢◌, ℕ, ◌<◌, ◌≤◌, Bool, true, false, not, cond, ◌==◌, leb, List, [], ◌∷◌, ◌++◌, refl, sym, ap, ◌∙◌, arith, inl, inr}
 use Rattle.std.specs.Prelude.{Some}
 use Rattle.std.specs.List.{AllByRecursion, filter}
@@ -14,7 +15,6 @@ use Rattle.board_rows.specs.Board.{Record, Does, TakesBack, Commits, RollsBack, 
 use Rattle.board_rows.specs.Rows.{deeds_in, commit_of, logged}
 use Rattle.board_rows.specs.Events.{put}
 use Rattle.board_rows.specs.Sound.{Follows}
-use Rattle.board_rows.proofs.Shown.{all_map, all_append}
 use Rattle.board_rows.proofs.ClockSteps.{put-here}
 use Rattle.board_rows.proofs.TxnSteps.{stops}
 use Rattle.board_rows.proofs.TxnSettles.{IsPlaced}

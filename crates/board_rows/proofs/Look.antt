@@ -1,4 +1,5 @@
 -- What a look at a row shows is what the session sees, and it is settled.
+use Rattle.board_rows.proofs.Lists.{all_map, all_both, all_append, clash, suffix_here}
 use Rattle.std.proofs.Common.{◌≡◌, ℕ, suc, ◌<◌, ◌≤◌, Bool, true, false, cond, ◌||◌, leb, List, [], ◌∷◌, ◌++◌, refl, sym, ap, ◌∙◌, subst, arith, inl, inr, ◌⊎◌}
 use Rattle.std.specs.Prelude.{Option, Some, None, IsSomeAnd}
 use Rattle.std.specs.Option.{option_and_then, option_map_or}
@@ -20,8 +21,8 @@ use Rattle.board_rows.specs.Numbers.{wrap_in}
 use Rattle.board_rows.specs.Rows.{FreeUnder, IsFree, on, shown, on_row, deeds_in, committed_at, is_up_to, seen_at, Ordered}
 use Rattle.board_rows.specs.Events.{Board, IsLate, IsLateHere, is_own, MayLook, MayChange, value_there}
 use Rattle.board_rows.specs.Sound.{Sound, EndsBy, IsBelow, CanCommit, RecordIsIn}
-use Rattle.board_rows.proofs.Shown.{all_map, all_both, all_append, clash, shown-alike, shown-later, shown-none, on_row-shown}
-use Rattle.board_rows.proofs.Order.{suffix_here, all-seen, all_without}
+use Rattle.board_rows.proofs.Shown.{shown-alike, shown-later, shown-none, on_row-shown}
+use Rattle.board_rows.proofs.Order.{all-seen, all_without}
 use Rattle.board_rows.proofs.Replay.{value-on_row, value-same, own-first}
 use Rattle.board_rows.proofs.Owns.{IsUnder, all-free, under-fresh}
 use Rattle.board_rows.proofs.LateSteps.{all-used}

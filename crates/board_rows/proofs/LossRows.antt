@@ -1,4 +1,5 @@
 -- The clauses on rows are kept by a loss: what vanishes of a row is its newest.
+use Rattle.board_rows.proofs.Lists.{pair_filter, all_map, clash, all_filter}
 use Rattle.std.proofs.Common.{◌≡◌, ℕ, Bool, true, false, cond, ◌&&◌, ◌==◌, List, [], ◌∷◌, refl, sym, ap, ◌∙◌, subst, inl}
 use Rattle.std.specs.Prelude.{Option}
 use Rattle.std.specs.List.{AllByRecursion, filter}
@@ -13,10 +14,10 @@ use Rattle.journal.specs.Good.{Replays}
 use Rattle.board_rows.specs.Board.{Record, Does, TakesBack, Commits, RollsBack, DeedAt, xid_of, touches, is_that, without, stands_after, stands, EachSuffix}
 use Rattle.board_rows.specs.Rows.{FreeUnder, on, shown, on_row, deeds_in, IsOver, Ordered}
 use Rattle.board_rows.specs.Events.{is_kept, AreNear}
-use Rattle.board_rows.proofs.Shown.{all_map, clash, that-is, shown-later}
+use Rattle.board_rows.proofs.Shown.{that-is, shown-later}
+use Rattle.board_rows.proofs.Order.{pair_from}
 use Rattle.board_rows.proofs.Replay.{value-on_row}
-use Rattle.board_rows.proofs.Owns.{under-on, under-from}
-use Rattle.board_rows.proofs.Losses.{KeepsUnder, all_filter, Kept}
+use Rattle.board_rows.proofs.Losses.{KeepsUnder, Kept}
 
 -- what stands on a row
 abbrev pub mods_on : ℕ → List DeedAt → List DeedAt
@@ -55,34 +56,6 @@ after-other : (k : ℕ) (r : Record) (xs : List DeedAt) → touches k r ≡ fals
 after-other k (Does c x seq d) xs e = rw e refl
 after-other k (TakesBack j c x seq row) xs e = without-other k x seq row xs e
 after-other k _ xs e = refl
-
--- order, replay and what is shown go by rows
-Ordered-on : (k : ℕ) (committed : Xid → Option ℕ) (mods : List DeedAt) → Ordered committed mods → Ordered committed (mods_on k mods)
-Ordered-on k committed [] h = tt
-Ordered-on k committed (m ∷ mods) h = here (on k m) (Ordered-on k committed mods h.1)
-  where
-    here : (t : Bool) → Ordered committed (mods_on k mods) → Ordered committed (cond t (m ∷ mods_on k mods) (mods_on k mods))
-    here true ih = (all_map (λ o. (on k o ≡ true) × IsOver committed m o) (IsOver committed m) (mods_on k mods) (λ o h. h.1) (all_filter (IsOver committed m) (on k) mods h.0), ih)
-    here false ih = ih
-
-Ordered-from : (committed : Xid → Option ℕ) (mods : List DeedAt) → ((k : ℕ) → Ordered committed (mods_on k mods)) → Ordered committed mods
-Ordered-from committed [] h = tt
-Ordered-from committed (m ∷ mods) h = (head, Ordered-from committed mods (λ k. tail k (on k m) (h k)))
-  where
-    tail : (k : ℕ) (t : Bool) → Ordered committed (cond t (m ∷ mods_on k mods) (mods_on k mods)) → Ordered committed (mods_on k mods)
-    tail k true g = g.1
-    tail k false g = g
-
-    all : (os : List DeedAt) → AllByRecursion (IsOver committed m) (mods_on (row_of m.deed) os) → AllByRecursion (IsOver committed m) os
-    all [] g = tt
-    all (o ∷ os) g = here (on (row_of m.deed) o) refl g (λ g. all os g)
-      where
-        here : (t : Bool) → on (row_of m.deed) o ≡ t → AllByRecursion (IsOver committed m) (cond t (o ∷ mods_on (row_of m.deed) os) (mods_on (row_of m.deed) os)) → (AllByRecursion (IsOver committed m) (mods_on (row_of m.deed) os) → AllByRecursion (IsOver committed m) os) → IsOver committed m o × AllByRecursion (IsOver committed m) os
-        here true e g ih = (g.0, ih g.1)
-        here false e g ih = ((λ a. clash (on (row_of m.deed) o) a e), ih g)
-
-    head : AllByRecursion (IsOver committed m) mods
-    head = all mods (let own : Ordered committed (cond true (m ∷ mods_on (row_of m.deed) mods) (mods_on (row_of m.deed) mods)) = (let g = h (row_of m.deed) in let same : on (row_of m.deed) m ≡ true = eq-eqb (row_of m.deed) (row_of m.deed) refl in rw same at g) in own.0)
 
 Replays-on : (k : ℕ) (changes : List Change) → Replays changes → Replays (on_row k changes)
 Replays-on k [] h = tt
@@ -127,8 +100,8 @@ shown-on k test (m ∷ mods) = here (on k m) refl (shown-on k test mods)
     here false e ih = ih
 
 -- under a record that is kept all of its row is kept
-near-row : (i kept k : ℕ) (r : Record) (recs : List Record) → touches k r ≡ true → AllByRecursion (λ o. AreNear r o → is_kept i kept o ≡ true) recs → AllByRecursion (λ o. touches k o ≡ true → is_kept i kept o ≡ true) recs
-near-row i kept k r recs t h = all_map (λ o. AreNear r o → is_kept i kept o ≡ true) (λ o. touches k o ≡ true → is_kept i kept o ≡ true) recs (λ o f u. f (inl (k, t, u))) h
+near-row : (i kept k : ℕ) (r : Record) (recs : List Record) → touches k r ≡ true → is_kept i kept r ≡ true → AllByRecursion (λ o. is_kept i kept r ≡ true → AreNear r o → is_kept i kept o ≡ true) recs → AllByRecursion (λ o. touches k o ≡ true → is_kept i kept o ≡ true) recs
+near-row i kept k r recs t e = all_map _ _ recs (λ o f u. f e (inl (k, t, u)))
 
 module _ (i kept : ℕ) where
   -- a row of which every record is kept
@@ -150,7 +123,7 @@ module _ (i kept : ℕ) where
           → (older : List Record) × P older × (mods_on k (stands (cond t (r ∷ filter (Kept i kept) recs) (filter (Kept i kept) recs))) ≡ mods_on k (stands older))
       here false e u f ih = ih
       here true e false f ih = (ih.0, ih.1, after-other k r (stands (filter (Kept i kept) recs)) f ∙ ih.2)
-      here true e true f ih = (r ∷ recs, h.0, after-same k r (stands (filter (Kept i kept) recs)) (stands recs) (row-kept k recs (near-row i kept k r recs f (l.0 e))))
+      here true e true f ih = (r ∷ recs, h.0, after-same k r (stands (filter (Kept i kept) recs)) (stands recs) (row-kept k recs (near-row i kept k r recs f e l.0)))
 
   -- earlier boards of what is left
   suffix-kept : (P Q : List Record → Type 0) → ((recs : List Record) → KeepsUnder i kept recs → EachSuffix P recs → Q (filter (Kept i kept) recs)) → (recs : List Record) → KeepsUnder i kept recs → EachSuffix P recs → EachSuffix Q (filter (Kept i kept) recs)
@@ -174,12 +147,12 @@ module _ (i kept : ℕ) where
       here true e false f ih =
           by_mods (stands_after r (stands (filter (Kept i kept) recs))) (stands (filter (Kept i kept) recs)) (after-other k r (stands (filter (Kept i kept) recs)) f)
           ∙ (ih ∙ by_mods (stands recs) (stands_after r (stands recs)) (sym (after-other k r (stands recs) f)))
-      here true e true f ih = by_mods (stands_after r (stands (filter (Kept i kept) recs))) (stands_after r (stands recs)) (after-same k r (stands (filter (Kept i kept) recs)) (stands recs) (row-kept k recs (near-row i kept k r recs f (l.0 e))))
+      here true e true f ih = by_mods (stands_after r (stands (filter (Kept i kept) recs))) (stands_after r (stands recs)) (after-same k r (stands (filter (Kept i kept) recs)) (stands recs) (row-kept k recs (near-row i kept k r recs f e l.0)))
 
   -- the order and the replay are kept
   pub order-kept : (committed : Xid → Option ℕ) (recs : List Record) → KeepsUnder i kept recs → EachSuffix (λ older. Ordered committed (stands older)) recs → EachSuffix (λ older. Ordered committed (stands older)) (filter (Kept i kept) recs)
   order-kept committed = suffix-kept (λ older. Ordered committed (stands older)) (λ older. Ordered committed (stands older)) (λ recs l h.
-      Ordered-from committed (stands (filter (Kept i kept) recs)) (λ k. (let b = row-before (λ older. Ordered committed (stands older)) k recs l h in subst (Ordered committed) (sym b.2) (Ordered-on k committed (stands b.0) b.1))))
+      pair_from _ (λ m o e a. clash (on (row_of m.deed) o) a e) (stands (filter (Kept i kept) recs)) (λ k. (let b = row-before (λ older. Ordered committed (stands older)) k recs l h in subst (Ordered committed) (sym b.2) (pair_filter _ (on k) (stands b.0) b.1))))
 
   pub replay-kept : (recs : List Record) → KeepsUnder i kept recs → EachSuffix (λ older. Replays (changes_of (deeds_in (stands older)))) recs → EachSuffix (λ older. Replays (changes_of (deeds_in (stands older)))) (filter (Kept i kept) recs)
   replay-kept = suffix-kept (λ older. Replays (changes_of (deeds_in (stands older)))) (λ older. Replays (changes_of (deeds_in (stands older)))) (λ recs l h.
@@ -189,4 +162,4 @@ module _ (i kept : ℕ) where
 
   pub under-kept : (committed : Xid → Option ℕ) (s : ℕ) (x : Xid) (recs : List Record) → KeepsUnder i kept recs → EachSuffix (λ older. FreeUnder committed s x (stands older)) recs → EachSuffix (λ older. FreeUnder committed s x (stands older)) (filter (Kept i kept) recs)
   under-kept committed s x = suffix-kept (λ older. FreeUnder committed s x (stands older)) (λ older. FreeUnder committed s x (stands older)) (λ recs l h.
-      under-from committed s x (stands (filter (Kept i kept) recs)) (λ k. (let b = row-before (λ older. FreeUnder committed s x (stands older)) k recs l h in subst (FreeUnder committed s x) (sym b.2) (under-on k committed s x (stands b.0) b.1))))
+      pair_from _ (λ m o e f a. clash (on (row_of m.deed) o) a e) (stands (filter (Kept i kept) recs)) (λ k. (let b = row-before (λ older. FreeUnder committed s x (stands older)) k recs l h in subst (FreeUnder committed s x) (sym b.2) (pair_filter _ (on k) (stands b.0) b.1))))

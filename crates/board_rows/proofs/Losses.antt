@@ -1,5 +1,6 @@
 -- What a loss leaves of the board.
-use Rattle.std.proofs.Common.{◌≡◌, ℕ, ◌<◌, ◌≤◌, Bool, true, false, cond, ◌==◌, leb, List, [], ◌∷◌, refl, sym, ap, ◌∙◌, arith, inr}
+use Rattle.board_rows.proofs.Lists.{pair_both, pair_filter, all_map, all_of, clash, all_filter}
+use Rattle.std.proofs.Common.{◌≡◌, ◌≢◌, ℕ, ◌<◌, ◌≤◌, Bool, true, false, cond, ◌==◌, leb, List, [], ◌∷◌, refl, sym, ap, ◌∙◌, arith, inr}
 use Rattle.std.specs.Prelude.{Option, Some, None}
 use Rattle.std.specs.List.{AllByRecursion, filter}
 use Rattle.std.proofs.lemmas.Bool.{eq-eqb, eqb-true}
@@ -7,10 +8,10 @@ use Rattle.std.proofs.lemmas.Bool.Decides.{nat_tests}
 use Rattle.base_types.specs.declared.names.Xid.{Xid}
 use Rattle.journal.specs.Past.{same_xid}
 use Rattle.journal.proofs.XidLemmas.{same_xid-refl, same_xid-true}
-use Rattle.board_rows.specs.Board.{Record, Does, TakesBack, Commits, RollsBack, DeedAt, thread_of, scn_of, xid_of, is_that, without, stands_after, stands, of_xid, Stage, Fresh, Active, Over, stage, begun, Rising}
+use Rattle.board_rows.specs.Board.{EachPair, Record, Does, TakesBack, Commits, RollsBack, DeedAt, thread_of, scn_of, xid_of, is_that, without, stands_after, stands, of_xid, Stage, Fresh, Active, Over, stage, begun, Rising}
 use Rattle.board_rows.specs.Events.{is_kept, AreNear, LosesNewest}
 use Rattle.board_rows.specs.Sound.{MayFollow, Follows}
-use Rattle.board_rows.proofs.Shown.{all_map, all_of, clash, that-is}
+use Rattle.board_rows.proofs.Shown.{that-is}
 use Rattle.board_rows.proofs.RowSteps.{of_xid-without}
 use Rattle.board_rows.proofs.TxnSteps.{stops}
 use Rattle.board_rows.proofs.LateSteps.{all-used}
@@ -21,14 +22,6 @@ eqb-sym a b e = here (b == a) refl
     here : (t : Bool) → (b == a) ≡ t → t ≡ false
     here false f = refl
     here true f = clash (a == b) (eq-eqb a b (sym (eqb-true b a f))) e
-
-pub all_filter : {A : Type 0} (P : A → Type 0) (test : A → Bool) (xs : List A) → AllByRecursion P xs → AllByRecursion (λ x. (test x ≡ true) × P x) (filter test xs)
-all_filter P test [] h = tt
-all_filter P test (x ∷ xs) h = here (test x) refl (all_filter P test xs h.1)
-  where
-    here : (t : Bool) → test x ≡ t → AllByRecursion (λ x. (test x ≡ true) × P x) (filter test xs) → AllByRecursion (λ x. (test x ≡ true) × P x) (cond t (x ∷ filter test xs) (filter test xs))
-    here true e ih = ((e, h.0), ih)
-    here false e ih = ih
 
 -- nothing stands of a fresh transaction
 pub fresh-none : (x : Xid) (recs : List Record) → stage x recs ≡ Fresh → of_xid x (stands recs) ≡ []
@@ -80,8 +73,7 @@ of_xid-back x seq row (m ∷ mods) = here (is_that x seq row m) (same_xid x m.xi
 
 -- under a record that is kept, what is near it is kept
 abbrev pub KeepsUnder : ℕ → ℕ → List Record → Type 0
-KeepsUnder i kept [] = Unit {0}
-KeepsUnder i kept (r ∷ older) = (is_kept i kept r ≡ true → AllByRecursion (λ o. AreNear r o → is_kept i kept o ≡ true) older) × KeepsUnder i kept older
+KeepsUnder i kept = EachPair (λ r o. is_kept i kept r ≡ true → AreNear r o → is_kept i kept o ≡ true)
 
 module _ (i kept : ℕ) where
   abbrev pub Kept : Record → Bool
@@ -108,24 +100,23 @@ module _ (i kept : ℕ) where
       here false e h = clash true refl h
 
   -- what is older in the thread of a record that is kept is kept
-  pub older-kept : (r : Record) (recs : List Record) → Kept r ≡ true → AllByRecursion (λ o. thread_of o ≡ thread_of r → scn_of o < scn_of r) recs → AllByRecursion (λ o. thread_of o ≡ thread_of r → Kept o ≡ true) recs
-  older-kept r recs k h = all_map (λ o. thread_of o ≡ thread_of r → scn_of o < scn_of r) (λ o. thread_of o ≡ thread_of r → Kept o ≡ true) recs (λ o f e. one o (f e) e (thread_of o == i) refl) h
+  pub kept-older : (r o : Record) → Kept r ≡ true → scn_of o < scn_of r → thread_of r ≡ i → Kept o ≡ true
+  kept-older r o k lt e = let low = kept-back r k e in kept-low o (omega arith)
+
+  pub older-kept : (r o : Record) → Kept r ≡ true → (thread_of o ≡ thread_of r → scn_of o < scn_of r) → thread_of o ≡ thread_of r → Kept o ≡ true
+  older-kept r o k f e = by (thread_of o == i) refl
     where
-      one : (o : Record) → scn_of o < scn_of r → thread_of o ≡ thread_of r → (t : Bool) → (thread_of o == i) ≡ t → Kept o ≡ true
-      one o lt e false f = kept-other o f
-      one o lt e true f = let low = kept-back r k (sym e ∙ eqb-true (thread_of o) i f) in kept-low o (omega arith)
+      by : (t : Bool) → (thread_of o == i) ≡ t → Kept o ≡ true
+      by false g = kept-other o g
+      by true g = kept-older r o k (f e) (sym e ∙ eqb-true (thread_of o) i g)
 
   pub keeps-under : (recs : List Record) → Rising recs → LosesNewest i kept recs → KeepsUnder i kept recs
-  keeps-under [] rising l = tt
-  keeps-under (r ∷ recs) rising l = ((λ k. here k (thread_of r == i) refl), keeps-under recs rising.1 l.1)
+  keeps-under recs = pair_both _ _ _ recs (λ r o rises loses k near. by r o rises loses k near (thread_of r == i) refl (thread_of o == i) refl)
     where
-      here : Kept r ≡ true → (t : Bool) → (thread_of r == i) ≡ t → AllByRecursion (λ o. AreNear r o → Kept o ≡ true) recs
-      here k false e = l.0 (λ f. clash (thread_of r == i) (eq-eqb (thread_of r) i f) e)
-      here k true e = all_map (λ o. thread_of o ≡ thread_of r → Kept o ≡ true) (λ o. AreNear r o → Kept o ≡ true) recs (λ o f _. one o f (thread_of o == i) refl) (older-kept r recs k rising.0)
-        where
-          one : (o : Record) → (thread_of o ≡ thread_of r → Kept o ≡ true) → (t : Bool) → (thread_of o == i) ≡ t → Kept o ≡ true
-          one o f false g = kept-other o g
-          one o f true g = f (eqb-true (thread_of o) i g ∙ sym (eqb-true (thread_of r) i e))
+      by : (r o : Record) → (thread_of o ≡ thread_of r → scn_of o < scn_of r) → (thread_of r ≢ i → AreNear r o → Kept o ≡ true) → Kept r ≡ true → AreNear r o → (t : Bool) → (thread_of r == i) ≡ t → (u : Bool) → (thread_of o == i) ≡ u → Kept o ≡ true
+      by r o rises loses k near false e u f = loses (λ g. clash (thread_of r == i) (eq-eqb (thread_of r) i g) e) near
+      by r o rises loses k near true e false f = kept-other o f
+      by r o rises loses k near true e true f = kept-older r o k (rises (eqb-true (thread_of o) i f ∙ sym (eqb-true (thread_of r) i e))) (eqb-true (thread_of r) i e)
 
   -- all records of a transaction are kept
   abbrev pub AllKept : Xid → List Record → Type 0
@@ -213,8 +204,8 @@ module _ (i kept : ℕ) where
       here false e ih = let g = ih e in after-stage x r recs (not_of g (same_xid x (xid_of r)) refl) ∙ g
 
   -- under a record that is kept all of its transaction is kept
-  near-xid : (x : Xid) (r : Record) (recs : List Record) → same_xid x (xid_of r) ≡ true → AllByRecursion (λ o. AreNear r o → Kept o ≡ true) recs → AllKept x recs
-  near-xid x r recs e h = all_map (λ o. AreNear r o → Kept o ≡ true) (λ o. same_xid x (xid_of o) ≡ true → Kept o ≡ true) recs (λ o f g. f (inr (rw (sym (same_xid-true x (xid_of r) e)) g))) h
+  near-xid : (x : Xid) (r : Record) (recs : List Record) → same_xid x (xid_of r) ≡ true → Kept r ≡ true → AllByRecursion (λ o. Kept r ≡ true → AreNear r o → Kept o ≡ true) recs → AllKept x recs
+  near-xid x r recs e k = all_map _ _ recs (λ o f g. f k (inr (rw (sym (same_xid-true x (xid_of r) e)) g)))
 
   -- all records of a transaction whose end is kept are kept
   pub ended-whole : (x : Xid) (o : Option ℕ) (recs : List Record) → KeepsUnder i kept recs → Follows recs → stage x (filter Kept recs) ≡ Over o → AllKept x recs
@@ -222,7 +213,7 @@ module _ (i kept : ℕ) where
   ended-whole x o (r ∷ recs) l f e = here (Kept r) refl e (ended-whole x o recs l.1 f.1)
     where
       of_x : Kept r ≡ true → (t : Bool) → same_xid x (xid_of r) ≡ t → stage x (r ∷ filter Kept recs) ≡ Over o → (stage x (filter Kept recs) ≡ Over o → AllKept x recs) → (same_xid x (xid_of r) ≡ true → Kept r ≡ true) × AllKept x recs
-      of_x k true g e ih = ((λ _. k), near-xid x r recs g (l.0 k))
+      of_x k true g e ih = ((λ _. k), near-xid x r recs g k l.0)
       of_x k false g e ih = ((λ y. clash (same_xid x (xid_of r)) y g), ih (sym (after-stage x r (filter Kept recs) g) ∙ e))
 
       here : (t : Bool) → Kept r ≡ t → stage x (cond t (r ∷ filter Kept recs) (filter Kept recs)) ≡ Over o → (stage x (filter Kept recs) ≡ Over o → AllKept x recs) → (same_xid x (xid_of r) ≡ true → Kept r ≡ true) × AllKept x recs
@@ -233,7 +224,7 @@ module _ (i kept : ℕ) where
   commit-whole x c [] l f e k = tt
   commit-whole x c (r ∷ recs) l f e k = here r (same_xid x (xid_of r)) refl e f.0 l.0 (λ g. commit-whole x c recs l.1 f.1 g k)
     where
-      here : (r : Record) (t : Bool) → same_xid x (xid_of r) ≡ t → stage x (r ∷ recs) ≡ Over (Some c) → MayFollow r (stage (xid_of r) recs) → (Kept r ≡ true → AllByRecursion (λ o. AreNear r o → Kept o ≡ true) recs) → (stage x recs ≡ Over (Some c) → AllKept x recs) → (same_xid x (xid_of r) ≡ true → Kept r ≡ true) × AllKept x recs
+      here : (r : Record) (t : Bool) → same_xid x (xid_of r) ≡ t → stage x (r ∷ recs) ≡ Over (Some c) → MayFollow r (stage (xid_of r) recs) → AllByRecursion (λ o. Kept r ≡ true → AreNear r o → Kept o ≡ true) recs → (stage x recs ≡ Over (Some c) → AllKept x recs) → (same_xid x (xid_of r) ≡ true → Kept r ≡ true) × AllKept x recs
       here r false g e goes near ih = ((λ y. clash (same_xid x (xid_of r)) y g), ih (sym (after-stage x r recs g) ∙ e))
       here (Does d y seq deed) true g e goes near ih = absurd (let bad : Active ≡ Over (Some c) = rw g at e in cc)
       here (TakesBack j d y seq row) true g e goes near ih = absurd (stops (TakesBack j d y seq row) (stage y recs) (Some c) goes (rw (sym (same_xid-true x y g)) e))
@@ -242,23 +233,18 @@ module _ (i kept : ℕ) where
           let over : ◌≡◌ {A = Stage} (Over (Some d)) (Over (Some c)) = rw g at e in
           let same : c ≡ d = cc in
           let here_kept : Kept (Commits d y) ≡ true = rw (sym same, sym (same_xid-true x y g)) k in
-          ((λ _. here_kept), near-xid x (Commits d y) recs g (near here_kept))
+          ((λ _. here_kept), near-xid x (Commits d y) recs g here_kept near)
 
   pub follows-kept : (recs : List Record) → KeepsUnder i kept recs → Follows recs → Follows (filter Kept recs)
   follows-kept [] l f = tt
   follows-kept (r ∷ recs) l f = here (Kept r) refl (follows-kept recs l.1 f.1)
     where
       goes : Kept r ≡ true → MayFollow r (stage (xid_of r) (filter Kept recs))
-      goes k = rw (stage-kept (xid_of r) recs (near-xid (xid_of r) r recs (same_xid-refl (xid_of r)) (l.0 k))) f.0
+      goes k = rw (stage-kept (xid_of r) recs (near-xid (xid_of r) r recs (same_xid-refl (xid_of r)) k l.0)) f.0
 
       here : (t : Bool) → Kept r ≡ t → Follows (filter Kept recs) → Follows (cond t (r ∷ filter Kept recs) (filter Kept recs))
       here true k ih = (goes k, ih)
       here false k ih = ih
 
   pub rising-kept : (recs : List Record) → Rising recs → Rising (filter Kept recs)
-  rising-kept [] f = tt
-  rising-kept (r ∷ recs) f = here (Kept r) (rising-kept recs f.1)
-    where
-      here : (t : Bool) → Rising (filter Kept recs) → Rising (cond t (r ∷ filter Kept recs) (filter Kept recs))
-      here true ih = (all_map (λ o. (Kept o ≡ true) × (thread_of o ≡ thread_of r → scn_of o < scn_of r)) (λ o. thread_of o ≡ thread_of r → scn_of o < scn_of r) (filter Kept recs) (λ o h. h.1) (all_filter (λ o. thread_of o ≡ thread_of r → scn_of o < scn_of r) Kept recs f.0), ih)
-      here false ih = ih
+  rising-kept = pair_filter _ Kept

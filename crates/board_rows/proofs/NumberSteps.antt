@@ -1,4 +1,5 @@
 -- The numbers of deeds and the wraps of slots are kept.
+use Rattle.board_rows.proofs.Lists.{all_map, all_of, clash}
 use Rattle.std.proofs.Common.{◌≡◌, ℕ, suc, ◌<◌, ◌≤◌, Bool, true, false, cond, ◌&&◌, ◌||◌, ◌==◌, leb, max, List, [], ◌∷◌, ◌++◌, length, refl, sym, ap, ◌∙◌, subst, arith, inl, inr, ◌⊎◌}
 use Rattle.std.specs.List.{AllByRecursion, filter}
 use Rattle.std.proofs.lemmas.Bool.{eq-eqb, eqb-true, or_right}
@@ -7,9 +8,8 @@ use Rattle.base_types.specs.declared.names.Xid.{Xid}
 use Rattle.journal.specs.Past.{same_xid}
 use Rattle.journal.specs.declared.deeds.Deed.{Deed}
 use Rattle.journal.proofs.XidLemmas.{both_true, same_xid-true}
-use Rattle.board_rows.specs.Board.{Record, Does, TakesBack, Commits, RollsBack, thread_of, scn_of, begun, Rising}
-use Rattle.board_rows.specs.Numbers.{recorded_in, IsNumbered, Numbered, IsWithin, wrap_in, xid_at, Numbers}
-use Rattle.board_rows.proofs.Shown.{all_of, clash}
+use Rattle.board_rows.specs.Board.{Record, Does, TakesBack, Commits, RollsBack, thread_of, scn_of, begun, Rising, EachOver}
+use Rattle.board_rows.specs.Numbers.{recorded_in, IsNumbered, IsWithin, wrap_in, xid_at, Numbers}
 use Rattle.board_rows.proofs.Losses.{older-kept, Kept, kept-other, own-other, begun-kept}
 
 -- a transaction that has begun is within the wraps of its slot
@@ -94,15 +94,15 @@ did-kept i kept j (r ∷ recs) h = here r (Kept i kept r) refl h.0 (did-kept i k
     here _ false e f ih = ih
 
 module _ (i kept : ℕ) where
-  numbered-kept : (recs : List Record) → Rising recs → Numbered recs → Numbered (filter (Kept i kept) recs)
+  numbered-kept : (recs : List Record) → Rising recs → EachOver IsNumbered recs → EachOver IsNumbered (filter (Kept i kept) recs)
   numbered-kept [] rising h = tt
   numbered-kept (r ∷ recs) rising h = here (Kept i kept r) refl (numbered-kept recs rising.1 h.1)
     where
       same : (r : Record) → Kept i kept r ≡ true → AllByRecursion (λ o. thread_of o ≡ thread_of r → scn_of o < scn_of r) recs → IsNumbered r recs → IsNumbered r (filter (Kept i kept) recs)
-      same (Does c x seq d) k above n = n ∙ ap (λ (ds : List (Xid × Deed)). suc (length ds)) (sym (did-kept i kept x.seg recs (older-kept i kept (Does c x seq d) recs k above)))
+      same (Does c x seq d) k above n = n ∙ ap (λ (ds : List (Xid × Deed)). suc (length ds)) (sym (did-kept i kept x.seg recs (all_map _ _ recs (λ o. older-kept i kept (Does c x seq d) o k) above)))
       same _ k above n = tt
 
-      here : (t : Bool) → Kept i kept r ≡ t → Numbered (filter (Kept i kept) recs) → Numbered (cond t (r ∷ filter (Kept i kept) recs) (filter (Kept i kept) recs))
+      here : (t : Bool) → Kept i kept r ≡ t → EachOver IsNumbered (filter (Kept i kept) recs) → EachOver IsNumbered (cond t (r ∷ filter (Kept i kept) recs) (filter (Kept i kept) recs))
       here true e ih = (same r e rising.0 h.0, ih)
       here false e ih = ih
 
@@ -126,7 +126,7 @@ module _ (i kept : ℕ) where
           go false f true e h = rw f (ih h)
           go true f true e h =
               let at_j : j ≡ x.seg = eqb-true j x.seg f in
-              let same : recorded_in j (filter (Kept i kept) recs) ≡ recorded_in j recs = rw at_j (did-kept i kept x.seg recs (older-kept i kept (Does c x seq d) recs e above)) in
+              let same : recorded_in j (filter (Kept i kept) recs) ≡ recorded_in j recs = rw at_j (did-kept i kept x.seg recs (all_map _ _ recs (λ o. older-kept i kept (Does c x seq d) o e) above)) in
               rw f (subst (λ (ds : List (Xid × Deed)). IsWithin ((x, d) ∷ ds) ys) (sym same) h)
       here _ true e above h ih = ih h
       here _ false e above h ih = ih h

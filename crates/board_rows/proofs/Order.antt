@@ -1,27 +1,19 @@
 -- The order of what stands on a row.
-use Rattle.std.proofs.Common.{◌≡◌, ℕ, ◌<◌, ◌≤◌, Bool, true, false, cond, ◌||◌, List, [], ◌∷◌, refl, sym, ap, ◌∙◌, arith, inl, inr, ◌⊎◌}
+use Rattle.board_rows.proofs.Lists.{tests, pair_map, clash, all_map}
+use Rattle.std.proofs.Common.{◌≡◌, ℕ, ◌<◌, ◌≤◌, Bool, true, false, cond, filter, ◌||◌, List, [], ◌∷◌, refl, sym, ap, ◌∙◌, arith, inl, inr, ◌⊎◌}
 use Rattle.std.specs.Prelude.{Option, Some, None, IsSomeAnd}
 use Rattle.std.specs.List.{AllByRecursion}
-use Rattle.std.proofs.lemmas.Bool.{eqb-true}
+use Rattle.std.proofs.lemmas.Bool.{eqb-true, eq-eqb}
 use Rattle.std.proofs.lemmas.Bool.Decides.{nat_tests}
 use Rattle.base_types.specs.declared.names.Xid.{Xid}
 use Rattle.journal.specs.Past.{same_xid}
 use Rattle.journal.specs.Standing.{row_of, changes_of}
 use Rattle.journal.specs.declared.deeds.Commit.{Commit}
 use Rattle.journal.proofs.XidLemmas.{same_xid-refl, same_xid-true}
-use Rattle.board_rows.specs.Board.{DeedAt, without, is_that, Record, EachSuffix}
+use Rattle.board_rows.specs.Board.{DeedAt, without, is_that, EachPair}
 use Rattle.board_rows.specs.Rows.{IsFree, on, shown, on_row, deeds_in, is_up_to, seen_at, IsOver, Ordered, IsMade}
-use Rattle.board_rows.proofs.Shown.{NoneOn, Ahead, clash, all_map, none-shown, shown-alike, on_row-all, on_row-of_xid}
+use Rattle.board_rows.proofs.Shown.{NoneOn, Ahead, none-shown, shown-alike, on_row-all, on_row-of_xid}
 use Rattle.board_rows.proofs.Table.{OneMore, IsClear}
-
--- earlier boards
-pub suffix_here : (P : List Record → Type 0) (recs : List Record) → EachSuffix P recs → P recs
-suffix_here P [] h = h
-suffix_here P (r ∷ recs) h = h.0
-
-pub suffix_map : (P Q : List Record → Type 0) (recs : List Record) → ((older : List Record) → P older → Q older) → EachSuffix P recs → EachSuffix Q recs
-suffix_map P Q [] f h = f [] h
-suffix_map P Q (r ∷ recs) f h = (f (r ∷ recs) h.0, suffix_map P Q recs f h.1)
 
 pub same_xid-sym : (x y : Xid) → same_xid x y ≡ same_xid y x
 same_xid-sym x y = here (same_xid x y) (same_xid y x) refl refl
@@ -71,16 +63,11 @@ Ordered-changes committed m mods s lt free h = (all_map (IsFree committed s m.xi
     one o f row other = elim (f row) [ inl e ↦ clash (same_xid m.xid o.xid) (rw e (same_xid-refl m.xid)) other | inr l ↦ low (committed o.xid) l ]
 
 -- one more commit
-pub Ordered-committed : (x : Xid) (c : ℕ) (old now : Xid → Option ℕ) (mods : List DeedAt) → OneMore x c old now → Ordered old mods → Ordered now mods
-Ordered-committed x c old now [] more h = tt
-Ordered-committed x c old now (m ∷ mods) more h = (all_map (IsOver old m) (IsOver now m) mods one h.0, Ordered-committed x c old now mods more h.1)
-  where
-    go : (o : DeedAt) (t : Bool) → same_xid x o.xid ≡ t → IsSomeAnd (old o.xid) (λ d. d < m.scn) → IsSomeAnd (cond t (Some c) (old o.xid)) (λ d. d < m.scn)
-    go o false e l = l
-    go o true e l = absurd (no-commit (old o.xid) (λ d. d < m.scn) (rw (sym (same_xid-true x o.xid e)) more.new) l)
+over-committed : (x : Xid) (c : ℕ) (old now : Xid → Option ℕ) (m o : DeedAt) → OneMore x c old now → IsOver old m o → IsOver now m o
+over-committed x c old now m o more f = grind (arith, tests, more.is o.xid, more.new)
 
-    one : (o : DeedAt) → IsOver old m o → IsOver now m o
-    one o f row other = rw more.is (go o (same_xid x o.xid) refl (f row other))
+pub Ordered-committed : (x : Xid) (c : ℕ) (old now : Xid → Option ℕ) (mods : List DeedAt) → OneMore x c old now → Ordered old mods → Ordered now mods
+Ordered-committed x c old now mods more = pair_map _ _ mods (λ m o f. over-committed x c old now m o more f)
 
 pub all_without : (P : DeedAt → Type 0) (x : Xid) (seq row : ℕ) (mods : List DeedAt) → AllByRecursion P mods → AllByRecursion P (without x seq row mods)
 all_without P x seq row [] h = tt
@@ -90,13 +77,27 @@ all_without P x seq row (m ∷ mods) h = here (is_that x seq row m) (all_without
     here true ih = h.1
     here false ih = (h.0, ih)
 
-pub Ordered-back : (committed : Xid → Option ℕ) (x : Xid) (seq row : ℕ) (mods : List DeedAt) → Ordered committed mods → Ordered committed (without x seq row mods)
-Ordered-back committed x seq row [] h = tt
-Ordered-back committed x seq row (m ∷ mods) h = here (is_that x seq row m) (Ordered-back committed x seq row mods h.1)
+-- what holds of each pair does where one is taken back
+pub pair_without : (R : DeedAt → DeedAt → Type 0) (x : Xid) (seq row : ℕ) (mods : List DeedAt) → EachPair R mods → EachPair R (without x seq row mods)
+pair_without R x seq row [] h = tt
+pair_without R x seq row (m ∷ mods) h = grind (arith, pair_without R x seq row mods h.1, all_without (R m) x seq row mods h.0)
+
+-- and where it holds of each pair on a row, and of what is on two rows
+pub pair_from : (R : DeedAt → DeedAt → Type 0) → ((m o : DeedAt) → on (row_of m.deed) o ≡ false → R m o) → (mods : List DeedAt) → ((k : ℕ) → EachPair R (filter (on k) mods)) → EachPair R mods
+pair_from R apart [] h = tt
+pair_from R apart (m ∷ mods) h = (all mods (head (on (row_of m.deed) m) (eq-eqb (row_of m.deed) (row_of m.deed) refl) (h (row_of m.deed))), pair_from R apart mods (λ k. tail k (on k m) (h k)))
   where
-    here : (t : Bool) → Ordered committed (without x seq row mods) → Ordered committed (cond t mods (m ∷ without x seq row mods))
-    here true ih = h.1
-    here false ih = (all_without (IsOver committed m) x seq row mods h.0, ih)
+    tail : (k : ℕ) (t : Bool) → EachPair R (cond t (m ∷ filter (on k) mods) (filter (on k) mods)) → EachPair R (filter (on k) mods)
+    tail k true g = g.1
+    tail k false g = g
+
+    head : (t : Bool) → t ≡ true → EachPair R (cond t (m ∷ filter (on (row_of m.deed)) mods) (filter (on (row_of m.deed)) mods)) → AllByRecursion (R m) (filter (on (row_of m.deed)) mods)
+    head true e g = g.0
+    head false e g = clash false e refl
+
+    all : (os : List DeedAt) → AllByRecursion (R m) (filter (on (row_of m.deed)) os) → AllByRecursion (R m) os
+    all [] g = tt
+    all (o ∷ os) g = grind (arith, apart m o, all os)
 
 -- of one that isn't committed and one that is, one has nothing on the row, or the commit is below the other's deeds
 apart-or-below : (k : ℕ) (x y : Xid) (c d : ℕ) (committed : Xid → Option ℕ) (mods : List DeedAt) → committed x ≡ None → committed y ≡ Some d → Ordered committed mods → AllByRecursion (λ m. same_xid x m.xid ≡ true → m.scn < c) mods

@@ -1,4 +1,5 @@
 -- Replaying what stands, and the history.
+use Rattle.board_rows.proofs.Lists.{clash, all_map}
 use Rattle.std.proofs.Common.{◌≡◌, ℕ, ◌<◌, ◌≤◌, Bool, true, false, cond, ◌==◌, ◌||◌, max, List, [], ◌∷◌, ◌++◌, refl, sym, ap, ◌∙◌, arith, leb, inl, inr, ◌⊎◌}
 use Rattle.std.specs.Prelude.{Option, Some, None, IsSomeAnd, ◌&&◌}
 use Rattle.std.specs.List.{AllByRecursion}
@@ -17,7 +18,7 @@ use Rattle.journal.specs.Good.{changes_in, Replays}
 use Rattle.journal.proofs.XidLemmas.{same_xid-true}
 use Rattle.board_rows.specs.Board.{DeedAt, of_xid}
 use Rattle.board_rows.specs.Rows.{IsFree, on, shown, on_row, deeds_in, seen_at, IsOver, Ordered}
-use Rattle.board_rows.proofs.Shown.{NoneOn, clash, all_map, shown-or, shown-hidden, changes_of-append, on_row-of_xid}
+use Rattle.board_rows.proofs.Shown.{NoneOn, shown-or, shown-hidden, changes_of-append, on_row-of_xid}
 use Rattle.board_rows.proofs.Table.{IsClear}
 use Rattle.board_rows.proofs.Order.{none-under, Ordered-ahead, all-seen}
 

@@ -1,4 +1,5 @@
 -- The clauses on rows are kept by a change, by a step back, by an end and by a commit that becomes durable.
+use Rattle.board_rows.proofs.Lists.{clash, all_map, suffix_here, suffix_map}
 use Rattle.std.proofs.Common.{◌≡◌, ℕ, ◌<◌, Bool, true, false, cond, ◌==◌, max, List, [], ◌∷◌, refl, sym, ap, ◌∙◌, arith, inl, inr, ◌⊎◌}
 use Rattle.std.specs.Prelude.{Option, Some, None}
 use Rattle.std.specs.List.{AllByRecursion}
@@ -16,9 +17,9 @@ use Rattle.board_rows.specs.Board.{Record, Does, TakesBack, DeedAt, without, is_
 use Rattle.board_rows.specs.Rows.{IsFree, on, shown, on_row, deeds_in, seen_at, IsOver, Ordered, IsMade}
 use Rattle.board_rows.specs.Events.{Finds}
 use Rattle.board_rows.specs.Sound.{RowsStand}
-use Rattle.board_rows.proofs.Shown.{clash, all_map, shown-hidden, shown-without, that-is, on_row-all, on_row-of_xid}
+use Rattle.board_rows.proofs.Shown.{shown-hidden, shown-without, that-is, on_row-all, on_row-of_xid}
 use Rattle.board_rows.proofs.Table.{IsClear, OneMore, TableStands-committed}
-use Rattle.board_rows.proofs.Order.{suffix_here, suffix_map, Ordered-changes, Ordered-committed, Ordered-back, Ordered-ahead, clear-of, no-commit, same_xid-sym}
+use Rattle.board_rows.proofs.Order.{Ordered-changes, Ordered-committed, pair_without, Ordered-ahead, clear-of, no-commit, same_xid-sym}
 use Rattle.board_rows.proofs.Replay.{ReplaysOn, Replays-entered, Replays-head, Replays-tail, replays-on, bound, changes_up_to-all}
 
 -- one more change of a transaction: another has as many
@@ -116,7 +117,7 @@ module _ {recs : List Record} {committed : Xid → Option ℕ} {commits : List C
 
   pub rows-back : (i c : ℕ) (x : Xid) (seq row : ℕ) → committed x ≡ None → IsNewest x seq row (stands recs) → RowsStand (TakesBack i c x seq row ∷ recs) committed commits
   rows-back i c x seq row new newest = record {
-    order = (Ordered-back committed x seq row (stands recs) order, rows.order);
+    order = (pair_without _ x seq row (stands recs) order, rows.order);
     deeds_replay = (Replays-without x seq row committed (stands recs) new order newest (suffix_here (λ older. Replays (changes_of (deeds_in (stands older)))) recs rows.deeds_replay), rows.deeds_replay);
     table = λ t k. rows.table t k ∙ ap changes_of (sym (shown-without k (seen_at t committed) x seq row (stands recs) (λ _. rw new refl)));
     made = all_map (IsMade committed (stands recs)) (IsMade committed (without x seq row (stands recs))) commits (made-other committed (stands recs) (without x seq row (stands recs)) x new (λ y e. sym (of_xid-without y x seq row (stands recs) e))) rows.made;

@@ -1,4 +1,5 @@
 -- The clauses on segments are kept.
+use Rattle.board_rows.proofs.Lists.{pair_map, pair_both, pair_filter, all_of, all_map, all_both, clash, all_filter}
 use Rattle.std.proofs.Common.{◌≡◌, ◌≢◌, ℕ, ◌<◌, ◌≤◌, Bool, true, false, cond, ◌==◌, List, [], ◌∷◌, refl, sym, ◌∙◌, arith, inl, inr}
 use Rattle.std.specs.Prelude.{Option, Some, None}
 use Rattle.std.specs.List.{AllByRecursion, filter}
@@ -7,24 +8,24 @@ use Rattle.base_types.specs.declared.names.Xid.{Xid}
 use Rattle.journal.specs.Past.{same_xid}
 use Rattle.journal.specs.declared.deeds.Deed.{Deed}
 use Rattle.journal.proofs.XidLemmas.{same_xid-true}
-use Rattle.board_rows.specs.Board.{Record, Does, TakesBack, Commits, RollsBack, thread_of, scn_of, xid_of, Stage, Active, Over, stage, Rising, IsSafe}
-use Rattle.board_rows.specs.Events.{put, KeepsSegment, KeepsSegments}
-use Rattle.board_rows.specs.Sound.{Segments, IsOnSafe, AreOnSafe}
-use Rattle.board_rows.proofs.Shown.{all_map, all_both, clash}
+use Rattle.board_rows.specs.Board.{Record, Does, TakesBack, Commits, RollsBack, thread_of, scn_of, xid_of, Stage, Active, Over, stage, Rising, IsSafe, ForSegment}
+use Rattle.board_rows.specs.Events.{put, KeepsSegments}
+use Rattle.board_rows.specs.Sound.{Segments, AreOnSafe}
 use Rattle.board_rows.proofs.ClockSteps.{put-rises}
-use Rattle.board_rows.proofs.Losses.{all_filter, Kept, older-kept, kept-other, kept-low, AllKept, stage-kept}
+use Rattle.board_rows.proofs.Losses.{Kept, older-kept, kept-other, kept-low, AllKept, stage-kept}
 
 -- what is safe stays so as more enters
 safe-more : (old now : ℕ → ℕ) → ((j : ℕ) → old j ≤ now j) → (r : Record) → IsSafe old r → IsSafe now r
 safe-more old now rise r h = elim h [ inl e ↦ inl e | inr le ↦ inr (let up = rise (thread_of r) in omega (arith, le, up)) ]
 
 under-more : (old now : ℕ → ℕ) → ((j : ℕ) → old j ≤ now j) → (recs : List Record) → AreOnSafe old recs → AreOnSafe now recs
-under-more old now rise [] h = tt
-under-more old now rise (r ∷ recs) h = (one r h.0, under-more old now rise recs h.1)
+under-more old now rise recs = pair_map _ _ recs (λ r o. one r o)
   where
-    one : (r : Record) → IsOnSafe old r recs → IsOnSafe now r recs
-    one (Does c x seq d) h = all_map (λ o. (xid_of o).seg ≡ x.seg → IsSafe old o) (λ o. (xid_of o).seg ≡ x.seg → IsSafe now o) recs (λ o f e. safe-more old now rise o (f e)) h
-    one _ h = tt
+    one : (r o : Record) → ForSegment (IsSafe old) r o → ForSegment (IsSafe now) r o
+    one (Does c x seq d) o h = λ e. safe-more old now rise o (h e)
+    one (TakesBack i c x seq row) o h = tt
+    one (Commits c x) o h = tt
+    one (RollsBack i c x) o h = tt
 
 -- what has entered is kept
 safe-kept : (i kept : ℕ) (durable : ℕ → ℕ) → durable i ≤ kept → (r : Record) → scn_of r ≤ durable (thread_of r) → Kept i kept r ≡ true
@@ -33,18 +34,6 @@ safe-kept i kept durable low r le = here (thread_of r == i) refl le
     here : (t : Bool) → (thread_of r == i) ≡ t → scn_of r ≤ durable (thread_of r) → Kept i kept r ≡ true
     here false e le = kept-other i kept r e
     here true e le = kept-low i kept r (let at_i : scn_of r ≤ durable i = rw (eqb-true (thread_of r) i e) at le in omega (arith, at_i, low))
-
-under-kept : (i kept : ℕ) (durable : ℕ → ℕ) (recs : List Record) → AreOnSafe durable recs → AreOnSafe durable (filter (Kept i kept) recs)
-under-kept i kept durable [] h = tt
-under-kept i kept durable (r ∷ recs) h = here (Kept i kept r) (one r h.0) (under-kept i kept durable recs h.1)
-  where
-    one : (r : Record) → IsOnSafe durable r recs → IsOnSafe durable r (filter (Kept i kept) recs)
-    one (Does c x seq d) f = all_map (λ o. (Kept i kept o ≡ true) × ((xid_of o).seg ≡ x.seg → IsSafe durable o)) (λ o. (xid_of o).seg ≡ x.seg → IsSafe durable o) (filter (Kept i kept) recs) (λ o e. e.1) (all_filter (λ o. (xid_of o).seg ≡ x.seg → IsSafe durable o) (Kept i kept) recs f)
-    one _ f = tt
-
-    here : (t : Bool) → IsOnSafe durable r (filter (Kept i kept) recs) → AreOnSafe durable (filter (Kept i kept) recs) → AreOnSafe durable (cond t (r ∷ filter (Kept i kept) recs) (filter (Kept i kept) recs))
-    here true f g = (f, g)
-    here false f g = g
 
 -- an end leaves the other transactions as they were
 still : (st : Stage) (end : Option ℕ) (t live up : Bool) → (st ≡ Active → up ≡ true → live ≡ true) → cond t (Over end) st ≡ Active → up ≡ true → cond t false live ≡ true
@@ -76,14 +65,14 @@ module _ {recs : List Record} {durable : ℕ → ℕ} {live : Xid → Bool} {up 
       active y false e f = h.active y e f
 
   pub segments-back : (i c : ℕ) (x : Xid) (seq row : ℕ) → stage x recs ≡ Active → (live x ≡ true → i ≡ x.seg) → Segments (TakesBack i c x seq row ∷ recs) durable live up
-  segments-back i c x seq row is own = record { lives = h.lives; active = h.active; safe = ((λ f. inl (own (h.active x is f))), h.safe); under = (tt, h.under) }
+  segments-back i c x seq row is own = record { lives = h.lives; active = h.active; safe = ((λ f. inl (own (h.active x is f))), h.safe); under = (all_of _ recs (λ o. tt), h.under) }
 
   pub segments-marks : (c : ℕ) (x : Xid) → Segments (Commits c x ∷ recs) durable (λ y. cond (same_xid y x) false (live y)) up
   segments-marks c x = record {
     lives = λ y. fewer y (same_xid y x);
     active = λ y. still (stage y recs) (Some c) (same_xid y x) (live y) (up y.seg) (h.active y);
     safe = ((λ _. inl refl), h.safe);
-    under = (tt, h.under);
+    under = (all_of _ recs (λ o. tt), h.under);
   }
 
   pub segments-rolls : (i c : ℕ) (x : Xid) → stage x recs ≡ Active → (live x ≡ true → i ≡ x.seg) → Segments (RollsBack i c x ∷ recs) durable (λ y. cond (same_xid y x) false (live y)) up
@@ -91,7 +80,7 @@ module _ {recs : List Record} {durable : ℕ → ℕ} {live : Xid → Bool} {up 
     lives = λ y. fewer y (same_xid y x);
     active = λ y. still (stage y recs) None (same_xid y x) (live y) (up y.seg) (h.active y);
     safe = ((λ f. inl (own (h.active x is f))), h.safe);
-    under = (tt, h.under);
+    under = (all_of _ recs (λ o. tt), h.under);
   }
 
   pub segments-settles : (j c : ℕ) → durable j < c → Segments recs (put durable j c) live up
@@ -110,7 +99,7 @@ module _ {recs : List Record} {durable : ℕ → ℕ} {live : Xid → Bool} {up 
     lives = λ y. lives y (y.seg == i);
     active = λ y. active y (y.seg == i) refl;
     safe = all_map (λ r. (Kept i kept r ≡ true) × WasSafe r) (λ r. cond ((xid_of r).seg == i) false (up (xid_of r).seg) ≡ true → IsSafe durable r) (filter (Kept i kept) recs) (λ r f is. f.1 (was (xid_of r) ((xid_of r).seg == i) is)) (all_filter WasSafe (Kept i kept) recs h.safe);
-    under = under-kept i kept durable recs h.under;
+    under = pair_filter _ (Kept i kept) recs h.under;
   }
     where
       was : (y : Xid) (t : Bool) → cond t false (up y.seg) ≡ true → up y.seg ≡ true
@@ -156,12 +145,10 @@ module _ {recs : List Record} {durable : ℕ → ℕ} {live : Xid → Bool} {up 
 
 -- what a loss keeps of a segment
 pub keeps-segments : (i kept : ℕ) (durable : ℕ → ℕ) → durable i ≤ kept → (recs : List Record) → Rising recs → AreOnSafe durable recs → KeepsSegments i kept recs
-keeps-segments i kept durable low [] rising under = tt
-keeps-segments i kept durable low (r ∷ recs) rising under = (one r rising.0 under.0, keeps-segments i kept durable low recs rising.1 under.1)
+keeps-segments i kept durable low recs = pair_both _ _ _ recs one
   where
-    one : (r : Record) → AllByRecursion (λ o. thread_of o ≡ thread_of r → scn_of o < scn_of r) recs → IsOnSafe durable r recs → KeepsSegment i kept r recs
-    one (Does c x seq d) older safe = λ k.
-        all_both (λ o. thread_of o ≡ x.seg → Kept i kept o ≡ true) (λ o. (xid_of o).seg ≡ x.seg → IsSafe durable o) (λ o. (xid_of o).seg ≡ x.seg → Kept i kept o ≡ true) recs
-        (λ o same f e. elim (f e) [ inl own ↦ same (own ∙ e) | inr le ↦ safe-kept i kept durable low o le ])
-        (older-kept i kept (Does c x seq d) recs k older) safe
-    one _ older safe = tt
+    one : (r o : Record) → (thread_of o ≡ thread_of r → scn_of o < scn_of r) → ForSegment (IsSafe durable) r o → Kept i kept r ≡ true → ForSegment (λ o. Kept i kept o ≡ true) r o
+    one (Does c x seq d) o rises safe k = λ e. elim (safe e) [ inl own ↦ older-kept i kept (Does c x seq d) o k rises (own ∙ e) | inr le ↦ safe-kept i kept durable low o le ]
+    one (TakesBack j c x seq row) o rises safe k = tt
+    one (Commits c x) o rises safe k = tt
+    one (RollsBack j c x) o rises safe k = tt

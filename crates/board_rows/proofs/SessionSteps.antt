@@ -1,4 +1,5 @@
 -- The clauses on sessions, on starts and on the order of entries are kept.
+use Rattle.board_rows.proofs.Lists.{clash}
 use Rattle.std.proofs.Common.{◌≡◌, ℕ, ◌<◌, ◌≤◌, Bool, true, false, cond, ◌&&◌, ◌||◌, ◌==◌, max, List, [], ◌∷◌, refl, sym, ap, ◌∙◌, arith, inl, inr, ◌⊎◌}
 use Rattle.std.specs.Prelude.{Option, Some, None, IsSomeAnd}
 use Rattle.std.specs.Option.{option_map_or}
@@ -18,7 +19,6 @@ use Rattle.board_rows.specs.Board.{DeedAt, of_xid}
 use Rattle.board_rows.specs.Rows.{IsFree, on, deeds_in, committed_at}
 use Rattle.board_rows.specs.Events.{Scan, put}
 use Rattle.board_rows.specs.Sound.{Sessions, Starts, Answers, IsProper, IsRead, ScanIsSeen}
-use Rattle.board_rows.proofs.Shown.{clash}
 use Rattle.board_rows.proofs.ClockSteps.{put-all, put-rises, put-here}
 
 -- nothing of a transaction has committed

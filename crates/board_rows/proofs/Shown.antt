@@ -1,4 +1,5 @@
 -- The deeds on a row that are seen.
+use Rattle.board_rows.proofs.Lists.{clash, all_of}
 use Rattle.std.proofs.Common.{◌≡◌, ℕ, Bool, true, false, cond, ◌&&◌, ◌||◌, ◌==◌, List, [], ◌∷◌, ◌++◌, refl, sym, ap, ◌∙◌}
 use Rattle.std.specs.List.{AllByRecursion}
 use Rattle.std.proofs.lemmas.Bool.{eqb-true, false≢true}
@@ -11,10 +12,6 @@ use Rattle.journal.proofs.XidLemmas.{both_true, same_xid-true}
 use Rattle.board_rows.specs.Board.{DeedAt, Record, Does, TakesBack, Commits, RollsBack, stands, without, xid_of, is_that, touches, of_xid}
 use Rattle.board_rows.specs.Rows.{on, shown, on_row, deeds_in}
 
--- what can't be true and false
-pub clash : {A : Type 0} (b : Bool) → b ≡ true → b ≡ false → A
-clash b t f = absurd (false≢true (sym f ∙ t))
-
 -- none of these is on the row
 abbrev pub NoneOn : ℕ → (Xid → Bool) → List DeedAt → Type 0
 NoneOn k test mods = AllByRecursion (λ m. on k m ≡ true → test m.xid ≡ false) mods
@@ -23,18 +20,6 @@ NoneOn k test mods = AllByRecursion (λ m. on k m ≡ true → test m.xid ≡ fa
 abbrev pub Ahead : ℕ → (Xid → Bool) → (Xid → Bool) → List DeedAt → Type 0
 Ahead k q p [] = Unit {0}
 Ahead k q p (m ∷ mods) = (on k m ≡ true → p m.xid ≡ true → NoneOn k q mods) × Ahead k q p mods
-
-pub all_map : {X : Type 0} (P Q : X → Type 0) (xs : List X) → ((x : X) → P x → Q x) → AllByRecursion P xs → AllByRecursion Q xs
-all_map P Q [] f h = tt
-all_map P Q (x ∷ xs) f h = (f x h.0, all_map P Q xs f h.1)
-
-pub all_both : {X : Type 0} (P Q R : X → Type 0) (xs : List X) → ((x : X) → P x → Q x → R x) → AllByRecursion P xs → AllByRecursion Q xs → AllByRecursion R xs
-all_both P Q R [] f h i = tt
-all_both P Q R (x ∷ xs) f h i = (f x h.0 i.0, all_both P Q R xs f h.1 i.1)
-
-pub all_append : {X : Type 0} (P : X → Type 0) (xs ys : List X) → AllByRecursion P (xs ++ ys) → AllByRecursion P xs × AllByRecursion P ys
-all_append P [] ys h = (tt, h)
-all_append P (x ∷ xs) ys h = let rest = all_append P xs ys h.1 in ((h.0, rest.0), rest.1)
 
 pub shown-none : (k : ℕ) (q p : Xid → Bool) (mods : List DeedAt) → NoneOn k q mods → shown k (λ y. q y || p y) mods ≡ shown k p mods
 shown-none k q p [] h = refl
@@ -75,10 +60,6 @@ shown-alike k p q (m ∷ mods) h = here (on k m) (p m.xid) (q m.xid) h.0 (shown-
     here : (o a b : Bool) → (o ≡ true → a ≡ b) → shown k p mods ≡ shown k q mods → cond (o && a) (m.deed ∷ shown k p mods) (shown k p mods) ≡ cond (o && b) (m.deed ∷ shown k q mods) (shown k q mods)
     here false a b e ih = ih
     here true a b e ih = rw (e refl, ih) refl
-
-pub all_of : {X : Type 0} (P : X → Type 0) (xs : List X) → ((x : X) → P x) → AllByRecursion P xs
-all_of P [] f = tt
-all_of P (x ∷ xs) f = (f x, all_of P xs f)
 
 pub shown-same : (k : ℕ) (p q : Xid → Bool) (mods : List DeedAt) → ((y : Xid) → p y ≡ q y) → shown k p mods ≡ shown k q mods
 shown-same k p q mods h = shown-alike k p q mods (all_of (λ m. on k m ≡ true → p m.xid ≡ q m.xid) mods (λ m _. h m.xid))

@@ -1,4 +1,5 @@
 -- One more commit in the history, and the table.
+use Rattle.board_rows.proofs.Lists.{clash}
 use Rattle.std.proofs.Common.{◌≡◌, ℕ, Bool, true, false, cond, ◌||◌, List, [], ◌∷◌, ◌++◌, refl, sym, ap, ◌∙◌, leb, inl, inr, ◌⊎◌}
 use Rattle.std.specs.Prelude.{Option, Some, None}
 use Rattle.std.specs.List.{AllByRecursion}
@@ -12,7 +13,7 @@ use Rattle.journal.specs.History.{is_before, entered, changes_up_to}
 use Rattle.journal.proofs.XidLemmas.{same_xid-true}
 use Rattle.board_rows.specs.Board.{DeedAt}
 use Rattle.board_rows.specs.Rows.{shown, on_row, is_up_to, seen_at, TableStands}
-use Rattle.board_rows.proofs.Shown.{Ahead, clash, shown-or, shown-same, changes_of-append}
+use Rattle.board_rows.proofs.Shown.{Ahead, shown-or, shown-same, changes_of-append}
 
 -- two commits are in order, or have no row in common
 abbrev pub IsClear : Commit → Commit → Type 0

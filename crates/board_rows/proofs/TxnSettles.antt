@@ -1,4 +1,5 @@
 -- The clauses on transactions are kept where the first record of a thread that isn't durable becomes so.
+use Rattle.board_rows.proofs.Lists.{all_map, all_append, clash}
 use Rattle.std.proofs.Common.{◌≡◌, ℕ, ◌<◌, ◌≤◌, Bool, true, false, cond, ◌&&◌, ◌||◌, ◌==◌, List, [], ◌∷◌, ◌++◌, refl, sym, ap, ◌∙◌, subst, arith, leb, inl, inr, ◌⊎◌}
 use Rattle.std.specs.Prelude.{Option, Some, None}
 use Rattle.std.specs.List.{AllByRecursion}
@@ -12,7 +13,6 @@ use Rattle.journal.proofs.XidLemmas.{same_xid-refl, same_xid-true}
 use Rattle.board_rows.specs.Board.{Record, Commits, thread_of, scn_of, xid_of, Stage, Fresh, Active, Over, stage, durable_commit, Rising}
 use Rattle.board_rows.specs.Events.{put}
 use Rattle.board_rows.specs.Sound.{Txns, EndsBy, RecordIsIn}
-use Rattle.board_rows.proofs.Shown.{all_map, all_append, clash}
 use Rattle.board_rows.proofs.ClockSteps.{put-here, put-rises}
 use Rattle.board_rows.proofs.TxnSteps.{stage-commit}
 

@@ -1,4 +1,5 @@
 -- The clauses on transactions are kept.
+use Rattle.board_rows.proofs.Lists.{all_map, all_both, clash}
 use Rattle.std.proofs.Common.{◌≡◌, ◌≢◌, ℕ, ◌-◌, ◌<◌, Bool, true, false, cond, ◌&&◌, ◌||◌, ◌==◌, List, [], ◌∷◌, length, drop, refl, sym, ap, ◌∙◌, subst, arith, eqb, inl, inr, ◌⊎◌}
 use Rattle.std.specs.Prelude.{Option, Some, None}
 use Rattle.std.specs.List.{AllByRecursion}
@@ -13,7 +14,6 @@ use Rattle.journal.proofs.XidLemmas.{same_xid-refl, same_xid-true}
 use Rattle.board_rows.specs.Board.{Record, Does, TakesBack, Commits, RollsBack, DeedAt, without, of_xid, thread_of, scn_of, xid_of, stands, Stage, Fresh, Active, Over, stage, begun, durable_commit}
 use Rattle.board_rows.specs.Rows.{deeds_in}
 use Rattle.board_rows.specs.Sound.{MayFollow, Follows, Txns, IsMarked, EndsBy, MayGoOn, CanCommit, TxnAgrees, RecordAgrees, RecordIsIn}
-use Rattle.board_rows.proofs.Shown.{all_map, all_both, clash}
 use Rattle.board_rows.proofs.RowSteps.{of_xid-without}
 
 -- what has begun isn't fresh, and what is active has begun

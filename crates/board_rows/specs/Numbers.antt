@@ -1,12 +1,7 @@
 -- How the deeds of a segment are numbered, and the transactions of a slot.
 use Rattle.std.specs.Prelude.{ℕ, suc, ◌≡◌, ◌<◌, ◌≤◌, ◌⊎◌, max, Bool, true, false, if◌then◌else◌, ◌==◌, ◌&&◌, List, [], ◌∷◌, ◌++◌, length}
-use Rattle.base_types.specs.declared.names.Xid.{Xid}
-use Rattle.journal.specs.declared.entry.Entry.{Entry}
-use Rattle.journal.specs.declared.entry.Entry.TheVariants.{Changed, Locked, Marked, Rolled}
-use Rattle.journal.specs.Past.{Past, same_xid, is_loss_of}
-use Rattle.journal.specs.declared.deeds.Deed.{Deed}
-use Rattle.journal.specs.declared.deeds.Deed.TheVariants.{Changes, Locks}
-use Rattle.board_rows.specs.Board.{Record, Does, begun}
+use Rattle.board_rows.specs.Words.{Xid, Entry, Changed, Locked, Marked, Rolled, Past, same_xid, is_loss_of, Deed, Changes, Locks}
+use Rattle.board_rows.specs.Board.{Record, Does, begun, EachOver}
 
 -- the deeds of a segment that have a record, the newest first
 abbrev pub recorded_after : ℕ → Record → List (Xid × Deed) → List (Xid × Deed)
@@ -40,10 +35,6 @@ since_loss inst (e ∷ past) = since_after inst e (since_loss inst past)
 abbrev pub IsNumbered : Record → List Record → Type 0
 IsNumbered (Does scn xid seq deed) older = seq ≡ suc (length (recorded_in xid.seg older))
 IsNumbered _ older = Unit {0}
-
-abbrev pub Numbered : List Record → Type 0
-Numbered [] = Unit {0}
-Numbered (r ∷ older) = IsNumbered r older × Numbered older
 
 -- a list stands within another, in the same order
 abbrev pub IsWithin : List (Xid × Deed) → List (Xid × Deed) → Type 0
@@ -85,7 +76,7 @@ has_end xid (e ∷ past) = end_after xid e (has_end xid past)
 -- the loss of its instance has a record.
 pub record Numbers (records : List Record) (told since : ℕ → List (Xid × Deed))
     (has_deed has_end : Xid → Bool) : Type 0 where
-  pub numbered : Numbered records
+  pub numbered : EachOver IsNumbered records
   pub newest : (inst : ℕ) → (rest : List (Xid × Deed)) × (recorded_in inst records ≡ since inst ++ rest)
   pub within : (inst : ℕ) → IsWithin (recorded_in inst records) (told inst)
   pub wraps : (seg slot wrap : ℕ) → 0 < wrap → wrap ≤ wrap_in seg slot records → has_deed (xid_at seg slot wrap) ≡ true

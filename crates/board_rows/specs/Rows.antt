@@ -1,16 +1,8 @@
 -- What stands in one row, and what of it is seen.
 use Rattle.std.specs.Prelude.{ℕ, Bool, true, false, if◌then◌else◌, ◌==◌, ◌&&◌, ◌≡◌, ◌<◌, ◌≤◌, ◌⊎◌, nat_le, List, [], ◌∷◌, map, Option, Some, None, IsSomeAnd}
 use Rattle.std.specs.List.{filter, AllByRecursion}
-use Rattle.base_types.specs.declared.names.Xid.{Xid}
-use Rattle.journal.specs.declared.entry.Entry.{Entry}
-use Rattle.journal.specs.declared.entry.Entry.TheVariants.{Committed}
-use Rattle.journal.specs.Past.{Past, same_xid}
-use Rattle.journal.specs.declared.deeds.Change.{Change}
-use Rattle.journal.specs.declared.deeds.Deed.{Deed}
-use Rattle.journal.specs.Standing.{row_of, changes_of}
-use Rattle.journal.specs.declared.deeds.Commit.{Commit}
-use Rattle.journal.specs.History.{entered, changes_up_to}
-use Rattle.board_rows.specs.Board.{Record, Commits, DeedAt, of_xid, stands}
+use Rattle.board_rows.specs.Words.{Xid, Entry, Committed, Past, same_xid, Change, Deed, row_of, changes_of, Commit, entered, changes_up_to}
+use Rattle.board_rows.specs.Board.{Record, Commits, DeedAt, of_xid, stands, EachPair}
 
 -- whether a change or lock is on a row
 abbrev pub on : ℕ → DeedAt → Bool
@@ -54,8 +46,7 @@ IsOver committed m o =
 
 -- each deed stands so over those under it
 abbrev pub Ordered : (Xid → Option ℕ) → List DeedAt → Type 0
-Ordered committed [] = Unit {0}
-Ordered committed (m ∷ deeds) = AllByRecursion (IsOver committed m) deeds × Ordered committed deeds
+Ordered committed = EachPair (IsOver committed)
 
 -- The table at an SCN is what stands of the transactions that committed up to it.
 abbrev pub TableStands : (Xid → Option ℕ) → List Commit → List DeedAt → Type 0
@@ -97,7 +88,5 @@ NewestIsFree committed snapshot xid row (m ∷ deeds) =
 
 -- under each deed of a transaction all on its row are
 abbrev pub FreeUnder : (Xid → Option ℕ) → ℕ → Xid → List DeedAt → Type 0
-FreeUnder committed snapshot xid [] = Unit {0}
-FreeUnder committed snapshot xid (m ∷ deeds) =
-    (same_xid xid m.xid ≡ true → AllByRecursion (IsFree committed snapshot xid (row_of m.deed)) deeds)
-    × FreeUnder committed snapshot xid deeds
+FreeUnder committed snapshot xid =
+    EachPair (λ m o. same_xid xid m.xid ≡ true → IsFree committed snapshot xid (row_of m.deed) o)

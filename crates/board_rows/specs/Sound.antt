@@ -1,20 +1,8 @@
 -- What holds of the board after every event.
 use Rattle.std.specs.Prelude.{ℕ, ◌+◌, ◌≡◌, ◌<◌, ◌≤◌, ◌⊎◌, Bool, true, false, List, [], ◌∷◌, Option, Some, None, IsSomeAnd}
 use Rattle.std.specs.List.{AllByRecursion}
-use Rattle.base_types.specs.declared.names.Xid.{Xid}
-use Rattle.base_types.specs.declared.value.Value.{Value}
-use Rattle.journal.specs.declared.entry.Entry.{Entry}
-use Rattle.journal.specs.declared.entry.Entry.TheVariants.{Rows, Changed}
-use Rattle.journal.specs.Past.{Past, Each, start_of, home_of, is_up}
-use Rattle.journal.specs.declared.deeds.Change.{Change}
-use Rattle.journal.specs.declared.deeds.Deed.{Deed}
-use Rattle.journal.specs.Standing.{row_of, changes_of, standing, is_open}
-use Rattle.journal.specs.declared.deeds.Commit.{Commit}
-use Rattle.journal.specs.History.{history, marked}
-use Rattle.journal.specs.Sees.{sees, last_of}
-use Rattle.journal.specs.Stood.{stood, is_mark, is_commit_by, acked_up_to, started_up_to, came_up}
-use Rattle.journal.specs.Good.{Range, listed, RowsAreSeen, FoundIsSeen, CommitIsProper, AckIsProper, StartIsProper, RowIsFree, changes_in, Replays}
-use Rattle.board_rows.specs.Board.{Record, Does, TakesBack, Commits, RollsBack, thread_of, scn_of, xid_of, stands, of_xid, Stage, Fresh, Active, Over, stage, begun, durable_commit, EachSuffix, Rising, IsSafe}
+use Rattle.board_rows.specs.Words.{Xid, Value, Entry, Rows, Changed, Past, Each, start_of, home_of, is_up, Change, Deed, row_of, changes_of, standing, is_open, Commit, history, marked, sees, last_of, stood, is_mark, is_commit_by, acked_up_to, started_up_to, came_up, Range, listed, RowsAreSeen, FoundIsSeen, CommitIsProper, AckIsProper, StartIsProper, RowIsFree, changes_in, Replays}
+use Rattle.board_rows.specs.Board.{Record, Does, TakesBack, Commits, RollsBack, thread_of, scn_of, xid_of, stands, of_xid, Stage, Fresh, Active, Over, stage, begun, durable_commit, EachSuffix, EachOver, EachPair, Rising, IsSafe, ForSegment}
 use Rattle.board_rows.specs.Rows.{deeds_in, committed_at, Ordered, TableStands, IsMade, FreeUnder, logged}
 use Rattle.board_rows.specs.Numbers.{Numbers, told_in, since_loss, is_deed_of, has_end}
 use Rattle.board_rows.specs.Events.{Board, Scan, IsLate}
@@ -47,8 +35,7 @@ MayFollow r Fresh = ⊥
 
 -- each record may follow those before it
 abbrev pub Follows : List Record → Type 0
-Follows [] = Unit {0}
-Follows (r ∷ older) = MayFollow r (stage (xid_of r) older) × Follows older
+Follows = EachOver (λ r older. MayFollow r (stage (xid_of r) older))
 
 -- a transaction that is open or has no record yet
 abbrev pub MayGoOn : List Record → (Xid → Bool) → Xid → Type 0
@@ -95,13 +82,8 @@ pub record Txns (records : List Record) (durable : ℕ → ℕ) (stand : Xid →
   pub apart : (scn inst : ℕ) → durable inst < scn → has_commit scn inst ≡ false
 
 -- Under a change or lock each record that another thread has for its segment has entered, so no loss takes it away.
-abbrev pub IsOnSafe : (ℕ → ℕ) → Record → List Record → Type 0
-IsOnSafe durable (Does scn xid seq deed) older = AllByRecursion (λ o. (xid_of o).seg ≡ xid.seg → IsSafe durable o) older
-IsOnSafe durable _ older = Unit {0}
-
 abbrev pub AreOnSafe : (ℕ → ℕ) → List Record → Type 0
-AreOnSafe durable [] = Unit {0}
-AreOnSafe durable (r ∷ older) = IsOnSafe durable r older × AreOnSafe durable older
+AreOnSafe durable = EachPair (ForSegment (IsSafe durable))
 
 -- The transactions of an instance that is up are open until they end, and those of one that is down aren't open; what
 -- other threads have for the segment of an instance that is up has entered.
@@ -210,5 +192,4 @@ pub record Sound (asked : ℕ → Option Range) (insts : ℕ) (board : Board) : 
   pub reads_at : (session : ℕ) → (board.scan session).snapshot ≡ started_up_to session board.past
   -- what was answered, and what is being read, is what sessions see
   pub answers : Answers asked board.floor board.scan board.past (history board.past)
-  -- entries stand where they may
-  pub proper : IsProper board.past
+  pub proper : IsProper board.past  -- entries stand where they may
