@@ -1,4 +1,5 @@
 -- What was answered stays right, and what is being read too.
+use Rattle.board_rows.proofs.Lists.{tests}
 use Rattle.board_rows.proofs.Lists.{clash}
 use Rattle.std.proofs.Common.{◌≡◌, ℕ, zero, suc, ◌+◌, ◌<◌, ◌≤◌, Bool, true, false, cond, ◌==◌, leb, max, List, [], ◌∷◌, ◌++◌, refl, sym, ap, ◌∙◌, subst, arith, inl, inr, ◌⊎◌}
 use Rattle.std.specs.Prelude.{Option, Some, None, IsSomeAnd}
@@ -57,21 +58,7 @@ each_both P Q R f (e ∷ past) h i = (f past e h.0 i.0, each_both P Q R f past h
 
 -- what was read stays read
 pub each-read : (asked : ℕ → Option Range) (floor now : ℕ → ℕ) → ((k : ℕ) → floor k ≤ now k) → (past : Past) → Each (IsRead asked floor) past → Each (IsRead asked now) past
-each-read asked floor now up past = each_map (IsRead asked floor) (IsRead asked now) one past
-  where
-    one : (past : Past) (e : Entry) → IsRead asked floor past e → IsRead asked now past e
-    one past (Rows n rows) = two (asked n) (start_of n past)
-      where
-        two : (o : Option Range) (p : Option Start) → IsSomeAnd o (λ range. IsSomeAnd p (λ start. AreRead floor start.snapshot range.first range.count)) → IsSomeAnd o (λ range. IsSomeAnd p (λ start. AreRead now start.snapshot range.first range.count))
-        two (Some range) (Some start) h = λ k low high. (let a = h k low high in let b = up k in omega arith)
-        two (Some range) None h = h
-        two None p h = h
-    one past (Changed n x row found new) = two (start_of n past)
-      where
-        two : (p : Option Start) → IsSomeAnd p (λ start. start.snapshot ≤ floor row) → IsSomeAnd p (λ start. start.snapshot ≤ now row)
-        two (Some start) h = let b = up row in omega (arith, h)
-        two None h = h
-    one past _ = λ h. h
+each-read asked floor now up past = grind (arith, tests, each_map)
 
 pub scan-read : (floor now : ℕ → ℕ) → ((k : ℕ) → floor k ≤ now k) → (scan : Scan) (value : ℕ → ℕ → Value) → ScanIsSeen floor scan value → ScanIsSeen now scan value
 scan-read floor now up scan value h = record { seen = h.seen; read = λ k low high. (let a = h.read k low high in let b = up k in omega arith) }
@@ -116,45 +103,14 @@ module _ (recs : List Record) (scn floor : ℕ → ℕ) (live : Xid → Bool) {c
     (below : AllByRecursion (λ m. same_xid x m.xid ≡ true → m.scn < a.commit_scn) (stands recs)) (late : RowsAreLate recs scn floor live committed) (rows : RowsStand recs committed commits) where
   none-or-above : (k : ℕ) (mods : List DeedAt) → AllByRecursion (Late recs scn floor live committed) mods → NoneOn k (same_xid x) mods ⊎ (floor k < a.commit_scn)
   none-or-above k [] h = inl tt
-  none-or-above k (m ∷ mods) h = here (on k m) refl (same_xid x m.xid) refl (none-or-above k mods h.1)
-    where
-      here : (o : Bool) → on k m ≡ o → (t : Bool) → same_xid x m.xid ≡ t → NoneOn k (same_xid x) mods ⊎ (floor k < a.commit_scn) → ((on k m ≡ true → same_xid x m.xid ≡ false) × NoneOn k (same_xid x) mods) ⊎ (floor k < a.commit_scn)
-      here o e t f (inr lt) = inr lt
-      here false e t f (inl n) = inl ((λ y. clash (on k m) y e), n)
-      here true e false f (inl n) = inl ((λ y. f), n)
-      here true e true f (inl n) =
-          let same : m.xid ≡ x = sym (same_xid-true x m.xid f) in
-          let none : committed m.xid ≡ None = rw same new in
-          let over : stage m.xid recs ≡ Over (Some a.commit_scn) = rw same is in
-          let l = h.0 none in
-          let lt : floor (row_of m.deed) < a.commit_scn = rw over at l in
-          inr (rw (sym (eqb-true (row_of m.deed) k e)) lt)
+  none-or-above k (m ∷ mods) h = grind (arith, none-or-above k mods h.1)
 
   pub settled-same : (s k : ℕ) → s ≤ floor k → on_row k (changes_up_to s commits) ≡ on_row k (changes_up_to s (entered a commits))
-  settled-same s k le = sym (row-entered k s a commits (rows-clear rows x a new marked below) ∙ ap (λ cs. cs ++ on_row k (changes_up_to s commits)) none)
-    where
-      nothing : (t : Bool) → on_row k a.changes ≡ [] → on_row k (cond t a.changes []) ≡ []
-      nothing true e = e
-      nothing false e = refl
-
-      none : on_row k (cond (leb a.commit_scn s) a.changes []) ≡ []
-      none = elim (none-or-above k (stands recs) late) [
-        | inl n ↦ nothing (leb a.commit_scn s) (ap (on_row k) marked ∙ (on_row-of_xid k x (stands recs) ∙ ap changes_of (none-shown k (same_xid x) (stands recs) n)))
-        | inr lt ↦ ap (λ t. on_row k (cond t a.changes [])) (lt-leb a.commit_scn s (omega (arith, lt, le)))
-      ]
+  settled-same s k le = grind (arith, tests, row-entered, rows-clear, none-or-above, on_row-of_xid, none-shown)
 
 -- what a session's own transaction did is the same after entries of others
 pub own-other : (past now : Past) (z : ℕ) → last_of z now ≡ last_of z past → ((y : Xid) → last_of z past ≡ Some y → (is_open y now ≡ is_open y past) × (standing y now ≡ standing y past)) → own_changes z now ≡ own_changes z past
-own-other past now z e same = rw e (go (last_of z past) refl)
-  where
-    go : (o : Option Xid) → last_of z past ≡ o
-        → option_map_or (λ x. changes_of (standing x now)) (option_and_then (λ x. cond (is_open x now) (Some x) None) o) [] ≡ option_map_or (λ x. changes_of (standing x past)) (option_and_then (λ x. cond (is_open x past) (Some x) None) o) []
-    go None f = refl
-    go (Some y) f = let s = same y f in rw (s.0) (by_open (is_open y past) s.1)
-      where
-        by_open : (t : Bool) → standing y now ≡ standing y past → option_map_or (λ x. changes_of (standing x now)) (cond t (Some y) None) [] ≡ option_map_or (λ x. changes_of (standing x past)) (cond t (Some y) None) []
-        by_open true s = ap changes_of s
-        by_open false s = refl
+own-other past now z e same = grind arith
 
 module _ (floor : ℕ → ℕ) (commits : List Commit) where
   -- what a session sees, by its own changes
@@ -165,22 +121,12 @@ module _ (floor : ℕ → ℕ) (commits : List Commit) where
   unread-seen s first value = record { seen = refl; read = λ k low high. absurd (omega (arith, low, high)) }
 
   pub scan-anew : (t : Bool) (scan : Scan) (mine now : List Change) → (t ≡ false → now ≡ mine) → ScanIsSeen floor scan (by_own mine) → ScanIsSeen floor (anew t scan) (by_own now)
-  scan-anew true scan mine now e h = unread-seen scan.snapshot scan.first (by_own now)
-  scan-anew false scan mine now e h = subst (λ own. ScanIsSeen floor scan (by_own own)) (sym (e refl)) h
+  scan-anew t scan mine now e h = grind arith
 
   -- one more row is read
   pub scan-reads : (scan : Scan) (k : ℕ) (value : ℕ → ℕ → Value) → k ≡ scan.first + scan.count → ScanIsSeen floor scan value → ScanIsSeen (put floor k (max (floor k) scan.snapshot)) (read_on scan (value scan.snapshot k)) value
-  scan-reads scan k value is h = record {
-    seen = rw is (ap (λ rows. rows ++ listed_before (scan.first + scan.count) (value scan.snapshot (scan.first + scan.count)) []) h.seen ∙ sym (listed-more (value scan.snapshot) scan.first scan.count));
-    read = λ j low high. put-all (λ j n. j < scan.first + suc scan.count → scan.first ≤ j → scan.snapshot ≤ n) floor k (max (floor k) scan.snapshot) (λ _ _. omega arith) (λ j off high low. h.read j low (below j off high)) j high low;
-  }
-    where
-      below : (j : ℕ) → (k == j) ≡ false → j < scan.first + suc scan.count → j < scan.first + scan.count
-      below j off high =
-          let differ : k ≡ j → ⊥ = (λ e. clash (k == j) (eq-eqb k j e) off) in
-          omega (arith, is, high, differ)
+  scan-reads scan k value is h = grind (arith, tests, listed-more, put-all)
 
 -- what is read anew is read at the same snapshot
 pub anew-at : (t : Bool) (scan : Scan) → (anew t scan).snapshot ≡ scan.snapshot
-anew-at true scan = refl
-anew-at false scan = refl
+anew-at t scan = grind arith

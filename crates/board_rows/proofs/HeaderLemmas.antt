@@ -1,4 +1,5 @@
 -- A header of a later moment than the image's tells who has committed.
+use Rattle.board_rows.proofs.Lists.{tests}
 use Rattle.board_rows.proofs.Lists.{all_append}
 use Rattle.std.proofs.Common.{◌≡◌, ℕ, ◌<◌, ◌≤◌, Bool, true, false, cond, ◌&&◌, leb, List, [], ◌∷◌, ◌++◌, refl, sym, ap, ◌∙◌, subst, arith, inl, inr, ◌⊎◌}
 use Rattle.std.specs.Prelude.{Option, Some, None}
@@ -31,10 +32,7 @@ follows-older (r ∷ newer) head f = follows-older newer head f.1
 
 -- what goes on has no end
 going : (r : Record) (st : Stage) (o : Option ℕ) → MayFollow r st → Agrees st o → Agrees Active o
-going r (Over p) o g a = absurd g
-going r Active o g a = a
-going r Fresh None g a = tt
-going r Fresh (Some e) g a = a
+going r st o g a = grind arith
 
 ended-agrees : (x : Xid) (recs : List Record) → Follows recs → Agrees (stage x recs) (ended x recs)
 ended-agrees x [] f = tt
@@ -58,27 +56,16 @@ ended-agrees x (RollsBack i c y ∷ recs) f = here (same_xid x y) (ended-agrees 
 -- nothing follows an end
 stays-over : (x : Xid) (o : Option ℕ) (newer head : List Record) → Follows (newer ++ head) → stage x head ≡ Over o → stage x (newer ++ head) ≡ Over o
 stays-over x o [] head f e = e
-stays-over x o (r ∷ newer) head f e = here (same_xid x (xid_of r)) refl (stays-over x o newer head f.1 e)
-  where
-    here : (t : Bool) → same_xid x (xid_of r) ≡ t → stage x (newer ++ head) ≡ Over o → stage x (r ∷ newer ++ head) ≡ Over o
-    here true g ih = absurd (stops r (stage (xid_of r) (newer ++ head)) o f.0 (rw (sym (same_xid-true x (xid_of r) g)) ih))
-    here false g ih = after-stage x r (newer ++ head) g ∙ ih
+stays-over x o (r ∷ newer) head f e = grind (arith, stays-over x o newer head f.1 e)
 
 stands-same : (x : Xid) (o : Option ℕ) (newer head : List Record) → Follows (newer ++ head) → stage x head ≡ Over o → of_xid x (stands (newer ++ head)) ≡ of_xid x (stands head)
 stands-same x o [] head f e = refl
-stands-same x o (r ∷ newer) head f e = here (same_xid x (xid_of r)) refl (stands-same x o newer head f.1 e)
-  where
-    here : (t : Bool) → same_xid x (xid_of r) ≡ t → of_xid x (stands (newer ++ head)) ≡ of_xid x (stands head) → of_xid x (stands (r ∷ newer ++ head)) ≡ of_xid x (stands head)
-    here true g ih = absurd (stops r (stage (xid_of r) (newer ++ head)) o f.0 (rw (sym (same_xid-true x (xid_of r) g)) (stays-over x o newer head f.1 e)))
-    here false g ih = after-of_xid x r (stands (newer ++ head)) g ∙ ih
+stands-same x o (r ∷ newer) head f e = grind (arith, tests, stops, stays-over, after-of_xid, stands-same x o newer head f.1 e)
 
 -- what has no deeds shows none
 none-shows : (k : ℕ) (mods : List DeedAt) → deeds_in mods ≡ [] → shown k (λ y. true) mods ≡ []
 none-shows k [] e = refl
-none-shows k (m ∷ mods) e = absurd (some e)
-  where
-    some : (m.deed ∷ deeds_in mods) ≡ [] → ⊥
-    some f = cc
+none-shows k (m ∷ mods) e = grind arith
 
 -- a commit is there, or its record came since
 commit-since : (P : Record → Type 0) (x : Xid) (c : ℕ) (newer head : List Record) → AllByRecursion P newer → stage x (newer ++ head) ≡ Over (Some c) → P (Commits c x) ⊎ (stage x head ≡ Over (Some c))
@@ -94,15 +81,8 @@ commit-since P x c (r ∷ newer) head h is = here r (same_xid x (xid_of r)) refl
 
 -- a deed that stands on a row is shown there
 shown-some : (k : ℕ) (x : Xid) (m : DeedAt) (mods more : List DeedAt) → on k m ≡ true → same_xid x m.xid ≡ true → shown k (same_xid x) (more ++ m ∷ mods) ≡ [] → ⊥
-shown-some k x m mods [] a e h = absurd (some (rw (a, e) at h))
-  where
-    some : (m.deed ∷ shown k (same_xid x) mods) ≡ [] → ⊥
-    some f = cc
-shown-some k x m mods (o ∷ more) a e h = here (on k o && same_xid x o.xid) h (shown-some k x m mods more a e)
-  where
-    here : (t : Bool) → cond t (o.deed ∷ shown k (same_xid x) (more ++ m ∷ mods)) (shown k (same_xid x) (more ++ m ∷ mods)) ≡ [] → (shown k (same_xid x) (more ++ m ∷ mods) ≡ [] → ⊥) → ⊥
-    here true f ih = (cc)
-    here false f ih = ih f
+shown-some k x m mods [] a e h = grind arith
+shown-some k x m mods (o ∷ more) a e h = grind (arith, shown-some k x m mods more a e)
 
 module _ (asked : ℕ → Option Range) (insts : ℕ) (b : Board) (sound : Sound asked insts b) (s k : ℕ) (x : Xid) (newer mid there : List Record) (may : MayTell b s k x newer mid there)
     (m : DeedAt) (older more : List DeedAt) (place : stands there ≡ more ++ m ∷ older) (row : on k m ≡ true) (same : same_xid x m.xid ≡ true) where
@@ -120,18 +100,11 @@ module _ (asked : ℕ → Option Range) (insts : ℕ) (b : Board) (sound : Sound
   seen-is st e = ap (is_up_to s) ((sound.txns.each x).commits ∙ ap (durable_commit (b.durable x.seg)) e)
 
   not-seen : (c : ℕ) → s < c → is_up_to s (durable_commit (b.durable x.seg) (Over (Some c))) ≡ false
-  not-seen c lt = here (leb c (b.durable x.seg))
-    where
-      here : (t : Bool) → is_up_to s (cond t (Some c) None) ≡ false
-      here true = grind (arith, nat_tests, lt)
-      here false = refl
+  not-seen c lt = grind arith
 
   -- by its stage now, where its end is above s
   not-yet : (st : Stage) → stage x b.records ≡ st → is_up_to s (ended x head) ≡ false → ((c : ℕ) → st ≡ Over (Some c) → s < c) → IsTold
-  not-yet (Over (Some c)) e none high = (none ∙ sym (seen-is (Over (Some c)) e ∙ not-seen c (high c refl)), λ _. rw e (high c refl))
-  not-yet (Over None) e none high = (none ∙ sym (seen-is (Over None) e), λ _. rw e tt)
-  not-yet Fresh e none high = (none ∙ sym (seen-is Fresh e), λ _. rw e may.clock)
-  not-yet Active e none high = (none ∙ sym (seen-is Active e), λ _. rw e may.clock)
+  not-yet st e none high = grind arith
 
   -- a commit record that the header doesn't have is above s
   came-since : ((c : ℕ) → stage x head ≡ Over (Some c) → ⊥) → (st : Stage) → stage x b.records ≡ st → (c : ℕ) → st ≡ Over (Some c) → s < c
@@ -168,27 +141,4 @@ module _ (asked : ℕ → Option Range) (insts : ℕ) (b : Board) (sound : Sound
           sym (shown-of_xid k x (stands head)) ∙ none-shows k (of_xid x (stands head)) (ap (λ (ms : List DeedAt). deeds_in ms) (sym mods) ∙ gone)
 
   pub header-tells : IsTold
-  header-tells = here (stage x head) refl (ended x head) refl (ended-agrees x head (follows-older newer head (subst Follows may.image sound.txns.follows)))
-    where
-      here : (st : Stage) → stage x head ≡ st → (o : Option ℕ) → ended x head ≡ o → Agrees st o → IsTold
-      here Fresh e None f g = not-yet (stage x b.records) refl (ap (is_up_to s) f) (came-since (λ c h. (let bad : Fresh ≡ Over (Some c) = sym e ∙ h in cc)) (stage x b.records) refl)
-      here Active e None f g = not-yet (stage x b.records) refl (ap (is_up_to s) f) (came-since (λ c h. (let bad : Active ≡ Over (Some c) = sym e ∙ h in cc)) (stage x b.records) refl)
-      here Fresh e (Some d) f g = absurd g
-      here Active e (Some d) f g = absurd g
-      here (Over None) e None f g = absurd g
-      here (Over (Some c)) e None f g = absurd g
-      here (Over None) e (Some d) f g = below (leb d s) refl
-        where
-          below : (t : Bool) → leb d s ≡ t → IsTold
-          below false l = not-yet (Over None) (over None e) (ap (is_up_to s) f ∙ l) (λ c h. (let bad : ◌≡◌ {A = Option ℕ} None (Some c) = cc in cc))
-          below true l = absurd (rolled-high d e f (grind (arith, nat_tests, l)))
-      here (Over (Some c)) e (Some d) f g = below (leb d s) refl
-        where
-          below : (t : Bool) → leb d s ≡ t → IsTold
-          below false l = not-yet (Over (Some c)) (over (Some c) e) (ap (is_up_to s) f ∙ l) (λ c2 h. (let same : c ≡ c2 = cc in grind (arith, nat_tests, l, g, same)))
-          below true l =
-              let low : c ≤ s = grind (arith, nat_tests, l, g) in
-              let on : leb c (b.durable x.seg) ≡ true = (let le = may.durable c e low in grind (arith, nat_tests, le)) in
-              let now = over (Some c) e in
-              let told : seen_at s (λ y. committed_at y b.past) x ≡ leb c s = seen-is (Over (Some c)) now ∙ ap (λ (t : Bool). is_up_to s (cond t (Some c) None)) on in
-              (ap (is_up_to s) f ∙ (ap (λ n. leb n s) (sym g) ∙ sym told), λ none. absurd (let some : committed_at x b.past ≡ Some c = (sound.txns.each x).commits ∙ (ap (durable_commit (b.durable x.seg)) now ∙ ap (λ (t : Bool). cond t (Some c) None) on) in let bad : ◌≡◌ {A = Option ℕ} None (Some c) = sym none ∙ some in cc))
+  header-tells  = grind (arith, tests, ended-agrees, follows-older, not-yet, came-since, over, rolled-high, seen-is)

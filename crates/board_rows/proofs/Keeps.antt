@@ -1,4 +1,5 @@
 -- Every event keeps the board sound.
+use Rattle.board_rows.proofs.Lists.{tests}
 use Rattle.board_rows.proofs.Lists.{all_of, all_map, all_both, all_append, clash, suffix_here, suffix_map}
 use Rattle.std.proofs.Common.{◌≡◌, ℕ, suc, ◌+◌, ◌<◌, ◌≤◌, Bool, true, false, cond, ◌&&◌, ◌||◌, ◌==◌, max, leb, List, ◌∷◌, ◌++◌, refl, sym, ap, ◌∙◌, subst, arith, inl, inr, ◌⊎◌}
 use Rattle.std.specs.Prelude.{Option, Some, None, IsSomeAnd}
@@ -48,29 +49,13 @@ module _ (asked : ℕ → Option Range) (insts : ℕ) (b : Board) (sound : Sound
   told_at y = committed_at y b.past
 
   higher : (t : Bool) (n m : ℕ) → m ≤ cond t (max n m) m
-  higher true n m = omega arith
-  higher false n m = omega arith
+  higher t n m = grind arith
 
   was_open : (y : Xid) (t : Bool) → cond t false (is_open y b.past) ≡ true → is_open y b.past ≡ true
-  was_open y true e = clash false e refl
-  was_open y false e = e
+  was_open y t e = grind arith
 
   pub keeps-opens : (z i : ℕ) → MayOpen insts b z i → Sound asked insts (after b (Events.opens z i))
-  keeps-opens z i may = record {
-    clocks = sound.clocks;
-    txns = sound.txns;
-    sessions = sessions-opens sound.sessions z i may.new;
-    segments = sound.segments;
-    rows = sound.rows;
-    owns = sound.owns;
-    log_history = sound.log_history;
-    numbers = sound.numbers;
-    late = sound.late;
-    starts = starts-opens sound.starts z i may.new may.within;
-    reads_at = sound.reads_at;
-    answers = push-answers b.scan (Opened z i) sound.answers tt tt tt sound.answers.scans;
-    proper = push-proper (Opened z i) sound.proper tt tt tt tt;
-  }
+  keeps-opens z i may = grind arith
 
   pub keeps-starts : (n z i e first : ℕ) → MayStart b z i e → Sound asked insts (after b (Events.starts n z i e first))
   keeps-starts n z i e first may = record {
@@ -95,21 +80,7 @@ module _ (asked : ℕ → Option Range) (insts : ℕ) (b : Board) (sound : Sound
       start = let low = starts-proper sound.starts z i e may.home may.up may.stays in (low.0, low.1, rw may.home (may.up, may.stays))
 
   pub keeps-learns : (i e : ℕ) → e ≤ b.clock i → Sound asked insts (after b (Events.learns i e))
-  keeps-learns i e may = record {
-    clocks = clocks-learns sound.clocks i e may;
-    txns = sound.txns;
-    sessions = sound.sessions;
-    segments = sound.segments;
-    rows = sound.rows;
-    owns = sound.owns;
-    log_history = sound.log_history;
-    numbers = sound.numbers;
-    late = sound.late;
-    starts = starts-learns sound.starts i e;
-    reads_at = sound.reads_at;
-    answers = sound.answers;
-    proper = sound.proper;
-  }
+  keeps-learns i e may = grind arith
 
   pub keeps-raises : (i c : ℕ) → Sound asked insts (after b (Events.raises i c))
   keeps-raises i c = record {
@@ -166,43 +137,10 @@ module _ (asked : ℕ → Option Range) (insts : ℕ) (b : Board) (sound : Sound
       here = rw (look-sees asked insts b sound z i (b.scan z).snapshot k newer there status may.look) (scan-reads b.floor (history b.past) (b.scan z) k value may.next (sound.answers.scans z))
 
   pub keeps-answers : (n z : ℕ) → MayAnswer asked b n z → Sound asked insts (after b (Events.answers n z))
-  keeps-answers n z may = record {
-    clocks = sound.clocks;
-    txns = sound.txns;
-    sessions = sound.sessions;
-    segments = sound.segments;
-    rows = sound.rows;
-    owns = sound.owns;
-    log_history = sound.log_history;
-    numbers = sound.numbers;
-    late = sound.late;
-    starts = sound.starts;
-    reads_at = sound.reads_at;
-    answers = push-answers b.scan (Rows n (b.scan z).rows) sound.answers (rw (may.range, may.started) (sound.answers.scans z).seen) tt (rw (may.range, may.started) (sound.answers.scans z).read) sound.answers.scans;
-    proper = push-proper (Rows n (b.scan z).rows) sound.proper tt tt tt tt;
-  }
+  keeps-answers n z may = grind arith
 
   pub keeps-acks : (n c : ℕ) (x : Xid) → MayAck insts b n c x → Sound asked insts (after b (Events.acks n c x))
-  keeps-acks n c x may = record {
-    clocks = sound.clocks;
-    txns = sound.txns;
-    sessions = sound.sessions;
-    segments = sound.segments;
-    rows = sound.rows;
-    owns = sound.owns;
-    log_history = sound.log_history;
-    numbers = sound.numbers;
-    late = sound.late;
-    starts = starts-acks sound.starts c may.heard;
-    reads_at = sound.reads_at;
-    answers = push-answers b.scan (Acked n x c) sound.answers tt tt tt sound.answers.scans;
-    proper = push-proper (Acked n x c) sound.proper tt (may.mark, some-stood x c b.past committed) tt tt;
-  }
-    where
-      committed : committed_at x b.past ≡ Some c
-      committed =
-          (sound.txns.each x).commits ∙ (ap (durable_commit (b.durable x.seg)) may.commit
-          ∙ ap (λ (t : Bool). cond t (Some c) None) (let le = may.durable in let yes : leb c (b.durable x.seg) ≡ true = grind (arith, nat_tests, le) in yes))
+  keeps-acks n c x may = grind (arith, tests, starts-acks, push-answers, push-proper, some-stood)
 
   drawn-at : (newer : List Record) (r : Record) (there : List Record) → b.records ≡ newer ++ r ∷ there → scn_of r ≤ b.clock (thread_of r)
   drawn-at newer r there place = (all_append (λ r. scn_of r ≤ b.clock (thread_of r)) newer (r ∷ there) (subst (AllByRecursion (λ r. scn_of r ≤ b.clock (thread_of r))) place sound.clocks.drawn)).1.0
@@ -219,10 +157,7 @@ module _ (asked : ℕ → Option Range) (insts : ℕ) (b : Board) (sound : Sound
   -- what sessions read, where a record of x is made
   scans-recorded : (x : Xid) (now : Past) → ((z : ℕ) → last_of z now ≡ last_of z b.past) → ((y : Xid) → same_xid y x ≡ false → (is_open y now ≡ is_open y b.past) × (standing y now ≡ standing y b.past))
       → (z : ℕ) → ScanIsSeen b.floor (anew (is_own (last_of z b.past) x) (b.scan z)) (by_own b.floor (history b.past) (own_changes z now))
-  scans-recorded x now last other z = scan-anew b.floor (history b.past) (is_own (last_of z b.past) x) (b.scan z) (own_changes z b.past) (own_changes z now) same (sound.answers.scans z)
-    where
-      same : is_own (last_of z b.past) x ≡ false → own_changes z now ≡ own_changes z b.past
-      same off = own-other b.past now z (last z) (λ y e. other y (let f : is_own (Some y) x ≡ false = rw e at off in f))
+  scans-recorded x now last other z = grind arith
 
   rise : (i : ℕ) (j : ℕ) → b.clock j ≤ put b.clock i (b.clock i + 1) j
   rise i = put-rises b.clock i (b.clock i + 1) (omega arith)
@@ -461,11 +396,7 @@ module _ (asked : ℕ → Option Range) (insts : ℕ) (b : Board) (sound : Sound
                 ]
 
     unbegun : stage x b.records ≡ Fresh → begun x b.records ≡ false
-    unbegun e = here (begun x b.records) refl
-      where
-        here : (t : Bool) → begun x b.records ≡ t → t ≡ false
-        here false f = refl
-        here true f = absurd (begun-used x b.records f e)
+    unbegun e = grind (arith, tests, begun-used)
 
     mine-wrap : (begun x b.records ≡ true) ⊎ (x.wrap ≡ suc (wrap_in x.seg x.slot b.records))
     mine-wrap = elim may.mine [ inl o ↦ inl (active-begun x b.records ((sound.txns.each x).active (own-is z x b.past o).1)) | inr o ↦ inr o.2 ]
@@ -507,12 +438,7 @@ module _ (asked : ℕ → Option Range) (insts : ℕ) (b : Board) (sound : Sound
     change-sessions = subst (λ (o : Option Start). Sessions (λ y. cond (same_xid y x) true (begun y b.records)) (λ y. cond (option_map_or (λ start. start.session == y) o false) (Some x) (last_of y b.past)) (λ y. home_of y b.past)) (sym may.started) (sessions-changes sound.sessions z x mine-begun may.home)
 
     change-answers : Answers asked floor b.scan b.past (history b.past)
-    change-answers = record {
-      rows = sound.answers.rows;
-      found = sound.answers.found;
-      read = each-read asked b.floor floor change-rises b.past sound.answers.read;
-      scans = λ y. scan-read b.floor floor change-rises (b.scan y) (λ s. sees (history b.past) b.past (record { session = y; snapshot = s })) (sound.answers.scans y);
-    }
+    change-answers  = grind (arith, tests, each-read, change-rises, scan-read)
 
   pub keeps-changes : (n z s : ℕ) (x : Xid) (seq : ℕ) (deed : Deed) → MayChange b n z s x seq deed → Sound asked insts (after b (Events.changes n z s x seq deed))
   keeps-changes n z s x seq (Changes change) may = record {

@@ -54,25 +54,7 @@ module _ (asked : ℕ → Option Range) (insts : ℕ) (b : Board) (sound : Sound
 
   -- what vanishes wasn't committed
   unseen : (s k : ℕ) (r : Record) → EndsBy (stage (xid_of r) b.records) r → (CanCommit (is_open (xid_of r) b.past) (stage (xid_of r) b.records) → thread_of r ≡ (xid_of r).seg) → is_kept i kept r ≡ false → touches k r ≡ true → seen_at s committed (xid_of r) ≡ false
-  unseen s k r ends own lost t = here (committed (xid_of r)) refl
-    where
-      below : (r : Record) (d : ℕ) → touches k r ≡ true → EndsBy (Over (Some d)) r → scn_of r < d
-      below (Does c x seq deed) d t h = h
-      below (TakesBack j c x seq row) d t h = h
-      below (Commits c x) d t h = clash false t refl
-      below (RollsBack j c x) d t h = clash false t refl
-
-      here : (o : Option ℕ) → committed (xid_of r) ≡ o → is_up_to s o ≡ false
-      here None e = refl
-      here (Some d) e =
-          let is = committed-is sound.txns i kept may.durable under (xid_of r) d e in
-          let gone = lost-is i kept r lost in
-          let mine = rw is.0 at own in
-          let same : (xid_of r).seg ≡ i = sym (mine tt) ∙ gone.0 in
-          let lt = below r d t (rw is.0 at ends) in
-          let low : d ≤ b.durable i = rw same at is.1 in
-          let up = may.durable in
-          absurd (omega (arith, lt, low, up, gone.1))
+  unseen s k r ends own lost t = grind arith
 
   rows-loses : RowsStand there committed (history b.past)
   rows-loses = record {
@@ -160,10 +142,7 @@ module _ (asked : ℕ → Option Range) (insts : ℕ) (b : Board) (sound : Sound
 
   -- the last transaction of a session of another instance is of another segment
   pub apart : (z : ℕ) (x : Xid) → is_home z i b.past ≡ false → last_of z b.past ≡ Some x → (x.seg == i) ≡ false
-  apart z x off e =
-      let home = sound.sessions.at_home z x e in
-      let test : (i == x.seg) ≡ false = rw home at off in
-      eqb-sym i x.seg test
+  apart z x off e = grind arith
 
   sessions-loses : Sessions (λ x. begun x there) (λ z. cond (is_home z i b.past) None (last_of z b.past)) (λ z. home_of z b.past)
   sessions-loses = record {
@@ -178,10 +157,7 @@ module _ (asked : ℕ → Option Range) (insts : ℕ) (b : Board) (sound : Sound
 
   scans-loses : (now : Past) → ((z : ℕ) → last_of z now ≡ cond (is_home z i b.past) None (last_of z b.past)) → ((y : Xid) → (y.seg == i) ≡ false → (is_open y now ≡ is_open y b.past) × (standing y now ≡ standing y b.past))
       → (z : ℕ) → ScanIsSeen b.floor (anew (is_home z i b.past) (b.scan z)) (by_own b.floor (history b.past) (own_changes z now))
-  scans-loses now last other z = scan-anew b.floor (history b.past) (is_home z i b.past) (b.scan z) (own_changes z b.past) (own_changes z now) same (sound.answers.scans z)
-    where
-      same : is_home z i b.past ≡ false → own_changes z now ≡ own_changes z b.past
-      same off = own-same b.past now z (last z ∙ rw off refl) (λ y e. other y (apart z y off e))
+  scans-loses now last other z = grind arith
 
   owns-loses : (z : ℕ) (x : Xid) → cond (is_home z i b.past) None (last_of z b.past) ≡ Some x → cond (x.seg == i) false (is_open x b.past) ≡ true → EachSuffix (λ older. FreeUnder committed (started_up_to z b.past) x (stands older)) there
   owns-loses z x e o = under-kept i kept committed (started_up_to z b.past) x b.records under (sound.owns z x (last (is_home z i b.past) e) (was (x.seg == i) o))

@@ -43,16 +43,10 @@ all-used (RollsBack i c x ∷ recs) =
     step m f false e = f e
 
 pub late-keeps : (s t : ℕ) (live : Bool) (st : Stage) (old now : ℕ) → t ≤ s → old ≤ now → IsLate s live st old → IsLate t live st now
-late-keeps s t live Fresh old now le up h = λ e. (let a = h e in omega arith)
-late-keeps s t live Active old now le up h = λ e. (let a = h e in omega arith)
-late-keeps s t live (Over None) old now le up h = tt
-late-keeps s t live (Over (Some c)) old now le up h = omega (arith, h)
+late-keeps s t live st old now le up h = grind arith
 
 late-max : (s t : ℕ) (live : Bool) (st : Stage) (now : ℕ) → IsLate s live st now → IsLate t live st now → IsLate (max s t) live st now
-late-max s t live Fresh now h i = λ e. (let a = h e in let b = i e in omega arith)
-late-max s t live Active now h i = λ e. (let a = h e in let b = i e in omega arith)
-late-max s t live (Over None) now h i = tt
-late-max s t live (Over (Some c)) now h i = omega (arith, h, i)
+late-max s t live st now h i = grind arith
 
 module _ (recs : List Record) (scn floor : ℕ → ℕ) (live : Xid → Bool) (committed : Xid → Option ℕ) where
   abbrev pub Late : DeedAt → Type 0

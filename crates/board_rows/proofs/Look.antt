@@ -29,32 +29,14 @@ use Rattle.board_rows.proofs.LateSteps.{all-used}
 
 -- a session's own transaction is its last one, and open
 pub own-is : (z : ℕ) (x : Xid) (past : Past) → own z past ≡ Some x → (last_of z past ≡ Some x) × (is_open x past ≡ true)
-own-is z x past h = here (last_of z past) refl h
-  where
-    test : (y : Xid) (t : Bool) → last_of z past ≡ Some y → is_open y past ≡ t → ◌≡◌ {A = Option Xid} (cond t (Some y) None) (Some x) → (last_of z past ≡ Some x) × (is_open x past ≡ true)
-    test y false e f h = absurd (let bad : ◌≡◌ {A = Option Xid} None (Some x) = h in cc)
-    test y true e f h = let same : y ≡ x = cc in (e ∙ ap Some same, rw (sym same) f)
-
-    here : (o : Option Xid) → last_of z past ≡ o → option_and_then (λ y. cond (is_open y past) (Some y) None) o ≡ Some x → (last_of z past ≡ Some x) × (is_open x past ≡ true)
-    here None e h = absurd (let bad : ◌≡◌ {A = Option Xid} None (Some x) = h in cc)
-    here (Some y) e h = test y (is_open y past) e refl h
+own-is z x past h = grind arith
 
 -- a record above s of one that commits hides nothing that is seen
 unseen : (s c d : ℕ) (st : Stage) → s < c → IsBelow c st → is_up_to s (durable_commit d st) ≡ false
-unseen s c d Fresh lt h = refl
-unseen s c d Active lt h = refl
-unseen s c d (Over None) lt h = refl
-unseen s c d (Over (Some e)) lt h = here (leb e d)
-  where
-    here : (t : Bool) → is_up_to s (cond t (Some e) None) ≡ false
-    here true = grind (arith, nat_tests, lt, h)
-    here false = refl
+unseen s c d st lt h = grind arith
 
 below-of : (k : ℕ) (r : Record) (st : Stage) → touches k r ≡ true → EndsBy st r → IsBelow (scn_of r) st
-below-of k (Does c x seq d) st t h = h
-below-of k (TakesBack i c x seq row) st t h = h
-below-of k (Commits c x) st t h = clash false t refl
-below-of k (RollsBack i c x) st t h = clash false t refl
+below-of k r st t h = grind arith
 
 -- what stood and what came since, of what stands
 abbrev pub OfRec : (DeedAt → Type 0) → Record → Type 0
@@ -78,14 +60,7 @@ stands-from P (RollsBack i c x ∷ recs) n = stands-from P recs n.1
 
 -- a deed is below its commit
 below-commit : (c d e : ℕ) (st : Stage) → IsBelow c st → durable_commit d st ≡ Some e → c < e
-below-commit c d e Fresh h f = absurd (let bad : ◌≡◌ {A = Option ℕ} None (Some e) = f in cc)
-below-commit c d e Active h f = absurd (let bad : ◌≡◌ {A = Option ℕ} None (Some e) = f in cc)
-below-commit c d e (Over None) h f = absurd (let bad : ◌≡◌ {A = Option ℕ} None (Some e) = f in cc)
-below-commit c d e (Over (Some g)) h f = here (leb g d) f
-  where
-    here : (t : Bool) → ◌≡◌ {A = Option ℕ} (cond t (Some g) None) (Some e) → c < e
-    here true f = let same : g ≡ e = cc in omega (arith, h, same)
-    here false f = absurd (let bad : ◌≡◌ {A = Option ℕ} None (Some e) = f in cc)
+below-commit c d e st h f = grind arith
 
 module _ (asked : ℕ → Option Range) (insts : ℕ) (b : Board) (sound : Sound asked insts b) where
   abbrev pub com_at : Xid → Option ℕ
@@ -161,22 +136,10 @@ module _ (asked : ℕ → Option Range) (insts : ℕ) (b : Board) (sound : Sound
     IsLateOn m = on k m ≡ true → IsLateHere b s m.xid
 
     own-low : (x : Xid) → is_own (own z b.past) x ≡ true → (stage x b.records ≡ Active) × (s ≤ b.clock x.seg)
-    own-low x e = here (own z b.past) refl e
-      where
-        here : (o : Option Xid) → own z b.past ≡ o → is_own o x ≡ true → (stage x b.records ≡ Active) × (s ≤ b.clock x.seg)
-        here None f e = clash false e refl
-        here (Some y) f e =
-            let same : y ≡ x = same_xid-true y x e in
-            let is = own-is z y b.past f in
-            let at_home : Some i ≡ Some y.seg = sym look.home ∙ sound.sessions.at_home z y is.0 in
-            let seg : i ≡ y.seg = cc in
-            (rw (sym same) ((sound.txns.each y).active is.1), (let low = look.low in rw (sym same, sym seg) low))
+    own-low x e = grind arith
 
     late-of : (c : ℕ) (x : Xid) (st : Stage) → stage x b.records ≡ st → s < c → IsBelow c st → (is_open x b.past ≡ true → c ≤ b.clock x.seg) → IsLate s (is_open x b.past) st (b.clock x.seg)
-    late-of c x Fresh is lt h low = λ e. (let a = low e in omega arith)
-    late-of c x Active is lt h low = λ e. (let a = low e in omega arith)
-    late-of c x (Over None) is lt h low = tt
-    late-of c x (Over (Some e)) is lt h low = omega (arith, lt, h)
+    late-of c x st is lt h low = grind arith
 
     -- and no commit will change it
     pub look-late : AllByRecursion IsLateOn (stands b.records)

@@ -1,6 +1,7 @@
 -- The clauses on rows are kept by a loss: what vanishes of a row is its newest.
+use Rattle.board_rows.proofs.Lists.{tests}
 use Rattle.board_rows.proofs.Lists.{pair_filter, all_map, clash, all_filter}
-use Rattle.std.proofs.Common.{◌≡◌, ℕ, Bool, true, false, cond, ◌&&◌, ◌==◌, List, [], ◌∷◌, refl, sym, ap, ◌∙◌, subst, inl}
+use Rattle.std.proofs.Common.{◌≡◌, ℕ, Bool, true, false, cond, ◌&&◌, ◌==◌, List, [], ◌∷◌, refl, sym, ap, ◌∙◌, subst, inl, arith}
 use Rattle.std.specs.Prelude.{Option}
 use Rattle.std.specs.List.{AllByRecursion, filter}
 use Rattle.std.proofs.lemmas.Bool.{eq-eqb, eqb-true}
@@ -25,45 +26,22 @@ mods_on k mods = filter (on k) mods
 
 without-other : (k : ℕ) (x : Xid) (seq row : ℕ) (mods : List DeedAt) → (row == k) ≡ false → mods_on k (without x seq row mods) ≡ mods_on k mods
 without-other k x seq row [] h = refl
-without-other k x seq row (m ∷ mods) h = here (is_that x seq row m) refl (without-other k x seq row mods h)
-  where
-    here : (t : Bool) → is_that x seq row m ≡ t → mods_on k (without x seq row mods) ≡ mods_on k mods → mods_on k (cond t mods (m ∷ without x seq row mods)) ≡ cond (on k m) (m ∷ mods_on k mods) (mods_on k mods)
-    here true e ih = let off : on k m ≡ false = rw (sym (that-is x seq row m e).1) h in rw off refl
-    here false e ih = ap (λ ms. cond (on k m) (m ∷ ms) ms) ih
+without-other k x seq row (m ∷ mods) h = grind (arith, without-other k x seq row mods h)
 
 without-on : (k : ℕ) (x : Xid) (seq row : ℕ) (mods : List DeedAt) → (row == k) ≡ true → mods_on k (without x seq row mods) ≡ without x seq row (mods_on k mods)
 without-on k x seq row [] h = refl
-without-on k x seq row (m ∷ mods) h = here (is_that x seq row m) (on k m) refl refl (without-on k x seq row mods h)
-  where
-    here : (t o : Bool) → is_that x seq row m ≡ t → on k m ≡ o → mods_on k (without x seq row mods) ≡ without x seq row (mods_on k mods) → mods_on k (cond t mods (m ∷ without x seq row mods)) ≡ without x seq row (cond o (m ∷ mods_on k mods) (mods_on k mods))
-    here true true e f ih = rw e refl
-    here true false e f ih = clash (on k m) (rw (sym (that-is x seq row m e).1) h) f
-    here false true e f ih = rw (e, f) (ap (λ ms. m ∷ ms) ih)
-    here false false e f ih = rw f ih
+without-on k x seq row (m ∷ mods) h = grind (arith, without-on k x seq row mods h)
 
 -- a record goes by what stands on its row, and leaves other rows
 after-same : (k : ℕ) (r : Record) (xs ys : List DeedAt) → mods_on k xs ≡ mods_on k ys → mods_on k (stands_after r xs) ≡ mods_on k (stands_after r ys)
-after-same k (Does c x seq d) xs ys e = ap (λ (ms : List DeedAt). cond (row_of d == k) (record { xid = x; seq = seq; scn = c; deed = d } ∷ ms) ms) e
-after-same k (Commits c x) xs ys e = e
-after-same k (RollsBack j c x) xs ys e = e
-after-same k (TakesBack j c x seq row) xs ys e = here (row == k) refl
-  where
-    here : (t : Bool) → (row == k) ≡ t → mods_on k (without x seq row xs) ≡ mods_on k (without x seq row ys)
-    here false f = without-other k x seq row xs f ∙ (e ∙ sym (without-other k x seq row ys f))
-    here true f = without-on k x seq row xs f ∙ (ap (without x seq row) e ∙ sym (without-on k x seq row ys f))
+after-same k r xs ys e = grind (arith, tests, without-other, without-on)
 
 after-other : (k : ℕ) (r : Record) (xs : List DeedAt) → touches k r ≡ false → mods_on k (stands_after r xs) ≡ mods_on k xs
-after-other k (Does c x seq d) xs e = rw e refl
-after-other k (TakesBack j c x seq row) xs e = without-other k x seq row xs e
-after-other k _ xs e = refl
+after-other k r xs e = grind (arith, tests, without-other)
 
 Replays-on : (k : ℕ) (changes : List Change) → Replays changes → Replays (on_row k changes)
 Replays-on k [] h = tt
-Replays-on k (change ∷ older) h = here (change.row == k) refl (Replays-on k older h.1)
-  where
-    here : (t : Bool) → (change.row == k) ≡ t → Replays (on_row k older) → Replays (cond t (change ∷ on_row k older) (on_row k older))
-    here true e ih = (h.0 ∙ (let same : change.row ≡ k = eqb-true change.row k e in rw same (sym (value-on_row k older))), ih)
-    here false e ih = ih
+Replays-on k (change ∷ older) h = grind (arith, tests, value-on_row, Replays-on k older h.1)
 
 Replays-from : (changes : List Change) → ((k : ℕ) → Replays (on_row k changes)) → Replays changes
 Replays-from [] h = tt
@@ -82,22 +60,11 @@ Replays-from (change ∷ older) h = (head (h change.row), Replays-from older (λ
 
 on_row-mods : (k : ℕ) (mods : List DeedAt) → on_row k (changes_of (deeds_in mods)) ≡ changes_of (deeds_in (mods_on k mods))
 on_row-mods k [] = refl
-on_row-mods k (m ∷ mods) = here m.deed (row_of m.deed == k) refl (on_row-mods k mods)
-  where
-    here : (d : Deed) (t : Bool) → (row_of d == k) ≡ t → on_row k (changes_of (deeds_in mods)) ≡ changes_of (deeds_in (mods_on k mods))
-        → on_row k (changes_of (d ∷ deeds_in mods)) ≡ changes_of (deeds_in (cond t (record m { deed = d } ∷ mods_on k mods) (mods_on k mods)))
-    here (Changes change) true e ih = rw e (ap (λ cs. change ∷ cs) ih)
-    here (Changes change) false e ih = rw e ih
-    here (Locks row) true e ih = ih
-    here (Locks row) false e ih = ih
+on_row-mods k (m ∷ mods) = grind (arith, on_row-mods k mods)
 
 shown-on : (k : ℕ) (test : Xid → Bool) (mods : List DeedAt) → shown k test (mods_on k mods) ≡ shown k test mods
 shown-on k test [] = refl
-shown-on k test (m ∷ mods) = here (on k m) refl (shown-on k test mods)
-  where
-    here : (t : Bool) → on k m ≡ t → shown k test (mods_on k mods) ≡ shown k test mods → shown k test (cond t (m ∷ mods_on k mods) (mods_on k mods)) ≡ cond (t && test m.xid) (m.deed ∷ shown k test mods) (shown k test mods)
-    here true e ih = rw e (ap (λ ds. cond (test m.xid) (m.deed ∷ ds) ds) ih)
-    here false e ih = ih
+shown-on k test (m ∷ mods) = grind (arith, shown-on k test mods)
 
 -- under a record that is kept all of its row is kept
 near-row : (i kept k : ℕ) (r : Record) (recs : List Record) → touches k r ≡ true → is_kept i kept r ≡ true → AllByRecursion (λ o. is_kept i kept r ≡ true → AreNear r o → is_kept i kept o ≡ true) recs → AllByRecursion (λ o. touches k o ≡ true → is_kept i kept o ≡ true) recs
@@ -107,12 +74,7 @@ module _ (i kept : ℕ) where
   -- a row of which every record is kept
   row-kept : (k : ℕ) (recs : List Record) → AllByRecursion (λ o. touches k o ≡ true → is_kept i kept o ≡ true) recs → mods_on k (stands (filter (Kept i kept) recs)) ≡ mods_on k (stands recs)
   row-kept k [] h = refl
-  row-kept k (r ∷ recs) h = here (Kept i kept r) refl (touches k r) refl (row-kept k recs h.1)
-    where
-      here : (t : Bool) → Kept i kept r ≡ t → (u : Bool) → touches k r ≡ u → mods_on k (stands (filter (Kept i kept) recs)) ≡ mods_on k (stands recs) → mods_on k (stands (cond t (r ∷ filter (Kept i kept) recs) (filter (Kept i kept) recs))) ≡ mods_on k (stands (r ∷ recs))
-      here true e u f ih = after-same k r (stands (filter (Kept i kept) recs)) (stands recs) ih
-      here false e false f ih = ih ∙ sym (after-other k r (stands recs) f)
-      here false e true f ih = clash (Kept i kept r) (h.0 f) e
+  row-kept k (r ∷ recs) h = grind (arith, tests, Kept, after-same, after-other, row-kept k recs h.1)
 
   -- each row is as it was on an earlier board
   row-before : (P : List Record → Type 0) (k : ℕ) (recs : List Record) → KeepsUnder i kept recs → EachSuffix P recs → (older : List Record) × P older × (mods_on k (stands (filter (Kept i kept) recs)) ≡ mods_on k (stands older))

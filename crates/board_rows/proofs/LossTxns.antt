@@ -1,4 +1,5 @@
 -- The clauses on transactions are kept by a loss.
+use Rattle.board_rows.proofs.Lists.{tests}
 use Rattle.board_rows.proofs.Lists.{all_map, clash, all_filter}
 use Rattle.std.proofs.Common.{◌≡◌, ℕ, ◌≤◌, Bool, true, false, cond, ◌==◌, leb, List, [], refl, sym, ap, ◌∙◌, arith, inl, inr, ◌⊎◌}
 use Rattle.std.specs.Prelude.{Option, Some, None}
@@ -23,17 +24,7 @@ module _ {recs : List Record} {durable : ℕ → ℕ} {stand : Xid → List Deed
 
   -- a commit on the disk
   pub committed-is : (y : Xid) (c : ℕ) → committed y ≡ Some c → (stage y recs ≡ Over (Some c)) × (c ≤ durable y.seg)
-  committed-is y c e = here (stage y recs) refl (sym (txns.each y).commits ∙ e)
-    where
-      test : (d : ℕ) (t : Bool) → leb d (durable y.seg) ≡ t → stage y recs ≡ Over (Some d) → ◌≡◌ {A = Option ℕ} (cond t (Some d) None) (Some c) → (stage y recs ≡ Over (Some c)) × (c ≤ durable y.seg)
-      test d true f is g = let same : d ≡ c = cc in (rw (sym same) is, (let low : d ≤ durable y.seg = grind (arith, nat_tests, f) in omega (arith, low, same)))
-      test d false f is g = absurd (let bad : ◌≡◌ {A = Option ℕ} None (Some c) = g in cc)
-
-      here : (st : Stage) → stage y recs ≡ st → durable_commit (durable y.seg) st ≡ Some c → (stage y recs ≡ Over (Some c)) × (c ≤ durable y.seg)
-      here Fresh is g = absurd (let bad : ◌≡◌ {A = Option ℕ} None (Some c) = g in cc)
-      here Active is g = absurd (let bad : ◌≡◌ {A = Option ℕ} None (Some c) = g in cc)
-      here (Over None) is g = absurd (let bad : ◌≡◌ {A = Option ℕ} None (Some c) = g in cc)
-      here (Over (Some d)) is g = test d (leb d (durable y.seg)) refl is g
+  committed-is y c e = grind arith
 
   -- all records of a transaction whose commit is kept are kept
   pub commit-kept : (y : Xid) (c : ℕ) → stage y recs ≡ Over (Some c) → Kept i kept (Commits c y) ≡ true → AllKept i kept y recs
@@ -41,11 +32,7 @@ module _ {recs : List Record} {durable : ℕ → ℕ} {stand : Xid → List Deed
 
   -- a commit on the disk is kept
   pub durable-kept : (y : Xid) (c : ℕ) → c ≤ durable y.seg → Kept i kept (Commits c y) ≡ true
-  durable-kept y c le = here (y.seg == i) refl
-    where
-      here : (t : Bool) → (y.seg == i) ≡ t → Kept i kept (Commits c y) ≡ true
-      here false off = kept-other i kept (Commits c y) off
-      here true at_i = (let up : durable y.seg ≤ kept = rw (eqb-true y.seg i at_i) lasts in kept-low i kept (Commits c y) (omega arith))
+  durable-kept y c le = grind arith
 
   -- all records of an open transaction of another instance are kept
   pub live-kept : (y : Xid) → live y ≡ true → (y.seg == i) ≡ false → AllKept i kept y recs
@@ -65,11 +52,7 @@ module _ {recs : List Record} {durable : ℕ → ℕ} {stand : Xid → List Deed
 
   -- a transaction of another instance that is fresh was so before
   pub fresh-before : (y : Xid) → (y.seg == i) ≡ false → stage y there ≡ Fresh → stage y recs ≡ Fresh
-  fresh-before y off e = unbegun-fresh y recs recs (begun-all recs txns.follows) (sym (begun-kept i kept y recs (own-other i kept y recs off)) ∙ here (begun y there) refl)
-    where
-      here : (t : Bool) → begun y there ≡ t → t ≡ false
-      here false f = refl
-      here true f = absurd (begun-used y there f e)
+  fresh-before y off e = grind (arith, tests, unbegun-fresh, begun-all, begun-kept, own-other, begun-used)
 
   pub txns-loses : Txns there durable (λ y. cond (y.seg == i) [] (stand y)) (λ y. cond (y.seg == i) false (live y)) mark has_mark committed has_commit
   txns-loses = record {

@@ -33,8 +33,7 @@ wrap-begun x (RollsBack i c y ∷ recs) h = wrap-begun x recs h
 
 -- one more transaction has ended, which has begun
 pub ended-more : (recs : List Record) (y x : Xid) (t : Bool) → same_xid y x ≡ t → (has : Bool) → begun x recs ≡ true → (has ≡ true → begun y recs ≡ true) → cond t true has ≡ true → begun y recs ≡ true
-ended-more recs y x true e has is old f = rw (same_xid-true y x e) is
-ended-more recs y x false e has is old f = old f
+ended-more recs y x t e has is old f = grind arith
 
 module _ {recs : List Record} {told since : ℕ → List (Xid × Deed)} {has ends : Xid → Bool} (h : Numbers recs told since has ends) where
   pub numbers-changes : (c : ℕ) (x : Xid) (seq : ℕ) (deed : Deed) → seq ≡ suc (length (recorded_in x.seg recs)) → (begun x recs ≡ true) ⊎ (x.wrap ≡ suc (wrap_in x.seg x.slot recs))
@@ -81,17 +80,7 @@ module _ {recs : List Record} {told since : ℕ → List (Xid × Deed)} {has end
 -- all deeds of a segment are kept
 did-kept : (i kept j : ℕ) (recs : List Record) → AllByRecursion (λ o. thread_of o ≡ j → Kept i kept o ≡ true) recs → recorded_in j (filter (Kept i kept) recs) ≡ recorded_in j recs
 did-kept i kept j [] h = refl
-did-kept i kept j (r ∷ recs) h = here r (Kept i kept r) refl h.0 (did-kept i kept j recs h.1)
-  where
-    here : (r : Record) (t : Bool) → Kept i kept r ≡ t → (thread_of r ≡ j → Kept i kept r ≡ true) → recorded_in j (filter (Kept i kept) recs) ≡ recorded_in j recs → recorded_in j (cond t (r ∷ filter (Kept i kept) recs) (filter (Kept i kept) recs)) ≡ recorded_in j (r ∷ recs)
-    here (Does c x seq d) true e f ih = ap (λ ds. cond (j == x.seg) ((x, d) ∷ ds) ds) ih
-    here (Does c x seq d) false e f ih = ih ∙ sym (other (j == x.seg) refl)
-      where
-        other : (t : Bool) → (j == x.seg) ≡ t → cond t ((x, d) ∷ recorded_in j recs) (recorded_in j recs) ≡ recorded_in j recs
-        other false g = refl
-        other true g = clash (Kept i kept (Does c x seq d)) (f (sym (eqb-true j x.seg g))) e
-    here _ true e f ih = ih
-    here _ false e f ih = ih
+did-kept i kept j (r ∷ recs) h = grind (arith, did-kept i kept j recs h.1)
 
 module _ (i kept : ℕ) where
   numbered-kept : (recs : List Record) → Rising recs → EachOver IsNumbered recs → EachOver IsNumbered (filter (Kept i kept) recs)
@@ -133,21 +122,7 @@ module _ (i kept : ℕ) where
 
   wrap-kept : (seg slot : ℕ) (recs : List Record) → wrap_in seg slot (filter (Kept i kept) recs) ≤ wrap_in seg slot recs
   wrap-kept seg slot [] = omega arith
-  wrap-kept seg slot (r ∷ recs) = here r (Kept i kept r) (wrap-kept seg slot recs)
-    where
-      both : (u : Bool) (w a b : ℕ) → a ≤ b → cond u (max w a) a ≤ cond u (max w b) b
-      both true w a b le = omega (arith, le)
-      both false w a b le = le
-
-      up : (u : Bool) (w a b : ℕ) → a ≤ b → a ≤ cond u (max w b) b
-      up true w a b le = omega (arith, le)
-      up false w a b le = le
-
-      here : (r : Record) (t : Bool) → wrap_in seg slot (filter (Kept i kept) recs) ≤ wrap_in seg slot recs → wrap_in seg slot (cond t (r ∷ filter (Kept i kept) recs) (filter (Kept i kept) recs)) ≤ wrap_in seg slot (r ∷ recs)
-      here (Does c x seq d) true ih = both (seg == x.seg && slot == x.slot) x.wrap (wrap_in seg slot (filter (Kept i kept) recs)) (wrap_in seg slot recs) ih
-      here (Does c x seq d) false ih = up (seg == x.seg && slot == x.slot) x.wrap (wrap_in seg slot (filter (Kept i kept) recs)) (wrap_in seg slot recs) ih
-      here _ true ih = ih
-      here _ false ih = ih
+  wrap-kept seg slot (r ∷ recs) = grind (arith, wrap-kept seg slot recs)
 
   pub numbers-loses : {recs : List Record} {told since : ℕ → List (Xid × Deed)} {has ends : Xid → Bool} → Numbers recs told since has ends → Rising recs → Numbers (filter (Kept i kept) recs) told (λ j. cond (j == i) [] (since j)) has (λ y. cond (y.seg == i) false (ends y))
   numbers-loses {recs} {told} {since} {has} {ends} h rising = record {

@@ -1,4 +1,5 @@
 -- The order of what stands on a row.
+use Rattle.board_rows.proofs.Lists.{tests}
 use Rattle.board_rows.proofs.Lists.{tests, pair_map, clash, all_map}
 use Rattle.std.proofs.Common.{◌≡◌, ℕ, ◌<◌, ◌≤◌, Bool, true, false, cond, filter, ◌||◌, List, [], ◌∷◌, refl, sym, ap, ◌∙◌, arith, inl, inr, ◌⊎◌}
 use Rattle.std.specs.Prelude.{Option, Some, None, IsSomeAnd}
@@ -16,13 +17,7 @@ use Rattle.board_rows.proofs.Shown.{NoneOn, Ahead, none-shown, shown-alike, on_r
 use Rattle.board_rows.proofs.Table.{OneMore, IsClear}
 
 pub same_xid-sym : (x y : Xid) → same_xid x y ≡ same_xid y x
-same_xid-sym x y = here (same_xid x y) (same_xid y x) refl refl
-  where
-    here : (a b : Bool) → same_xid x y ≡ a → same_xid y x ≡ b → a ≡ b
-    here true true e f = refl
-    here false false e f = refl
-    here true false e f = clash (same_xid y x) (rw (same_xid-true x y e) (same_xid-refl y)) f
-    here false true e f = clash (same_xid x y) (rw (same_xid-true y x f) (same_xid-refl x)) e
+same_xid-sym x y = grind arith
 
 -- two on one row
 pub on-both : (k : ℕ) (m o : DeedAt) → on k m ≡ true → on k o ≡ true → on (row_of m.deed) o ≡ true

@@ -1,4 +1,5 @@
 -- Replaying what stands, and the history.
+use Rattle.board_rows.proofs.Lists.{tests}
 use Rattle.board_rows.proofs.Lists.{clash, all_map}
 use Rattle.std.proofs.Common.{◌≡◌, ℕ, ◌<◌, ◌≤◌, Bool, true, false, cond, ◌==◌, ◌||◌, max, List, [], ◌∷◌, ◌++◌, refl, sym, ap, ◌∙◌, arith, leb, inl, inr, ◌⊎◌}
 use Rattle.std.specs.Prelude.{Option, Some, None, IsSomeAnd, ◌&&◌}
@@ -25,11 +26,7 @@ use Rattle.board_rows.proofs.Order.{none-under, Ordered-ahead, all-seen}
 -- only the changes of a row count
 pub value-on_row : (k : ℕ) (changes : List Change) → value_by (on_row k changes) k ≡ value_by changes k
 value-on_row k [] = refl
-value-on_row k (change ∷ older) = here (change.row == k) refl (value-on_row k older)
-  where
-    here : (o : Bool) → (change.row == k) ≡ o → value_by (on_row k older) k ≡ value_by older k → value_by (cond o (change ∷ on_row k older) (on_row k older)) k ≡ cond o change.new (value_by older k)
-    here true e ih = rw e refl
-    here false e ih = ih
+value-on_row k (change ∷ older) = grind (arith, value-on_row k older)
 
 pub value-same : (k : ℕ) (xs ys : List Change) → on_row k xs ≡ on_row k ys → value_by xs k ≡ value_by ys k
 value-same k xs ys e = sym (value-on_row k xs) ∙ (ap (λ cs. value_by cs k) e ∙ value-on_row k ys)
@@ -73,38 +70,21 @@ none_either k xs ys e = filter-append _ xs ys ∙ ap (λ cs. cs ++ on_row k ys) 
 
 all-untouched : (k : ℕ) (a : Commit) (commits : List Commit) → on_row k a.changes ≡ [] → on_row k (changes_in (entered a commits)) ≡ on_row k (changes_in commits)
 all-untouched k a [] h = none_either k a.changes [] h
-all-untouched k a (b ∷ commits) h = here (is_before a b) (all-untouched k a commits h)
-  where
-    here : (t : Bool) → on_row k (changes_in (entered a commits)) ≡ on_row k (changes_in commits) → on_row k (changes_in (cond t (b ∷ entered a commits) (a ∷ b ∷ commits))) ≡ on_row k (changes_in (b ∷ commits))
-    here false ih = none_either k a.changes (changes_in (b ∷ commits)) h
-    here true ih = filter-append _ b.changes (changes_in (entered a commits)) ∙ (ap (λ cs. on_row k b.changes ++ cs) ih ∙ sym (filter-append _ b.changes (changes_in commits)))
+all-untouched k a (b ∷ commits) h = grind (arith, tests, none_either, filter-append, all-untouched k a commits h)
 
 pub Replays-entered : (a : Commit) (commits : List Commit) → AllByRecursion (IsClear a) commits → ReplaysOn (changes_in commits) a.changes → Replays (changes_in commits) → Replays (changes_in (entered a commits))
 Replays-entered a [] clear on r = Replays-join a.changes [] on r
-Replays-entered a (b ∷ commits) clear on r = here (is_before a b) refl (Replays-split b.changes (changes_in commits) r) (Replays-entered a commits clear.1)
-  where
-    apart : is_before a b ≡ true → (k : ℕ) → (on_row k a.changes ≡ []) ⊎ (on_row k b.changes ≡ [])
-    apart e k = elim (clear.0 k) [ inl f ↦ clash (is_before a b) e f | inr n ↦ n ]
-
-    here : (t : Bool) → is_before a b ≡ t → ReplaysOn (changes_in commits) b.changes × Replays (changes_in commits) → (ReplaysOn (changes_in commits) a.changes → Replays (changes_in commits) → Replays (changes_in (entered a commits))) → Replays (changes_in (cond t (b ∷ entered a commits) (a ∷ b ∷ commits)))
-    here false e s ih = Replays-join a.changes (changes_in (b ∷ commits)) on r
-    here true e s ih =
-        Replays-join b.changes (changes_in (entered a commits))
-        (ReplaysOn-same b.changes (changes_in commits) (changes_in (entered a commits)) (λ k. elim (apart e k) [ inl n ↦ inr (sym (all-untouched k a commits n)) | inr n ↦ inl n ]) s.0)
-        (ih (ReplaysOn-same a.changes (b.changes ++ changes_in commits) (changes_in commits) (λ k. elim (apart e k) [ inl n ↦ inl n | inr n ↦ inr (none_either k b.changes (changes_in commits) n) ]) on) s.1)
+Replays-entered a (b ∷ commits) clear on r = grind (arith, tests, Replays-join, Replays-split, ReplaysOn-same, all-untouched, none_either, Replays-entered a commits clear.1)
 
 pub Replays-tail : (d : Deed) (deeds : List Deed) → Replays (changes_of (d ∷ deeds)) → Replays (changes_of deeds)
-Replays-tail (Changes change) deeds r = r.1
-Replays-tail (Locks row) deeds r = r
+Replays-tail d deeds r = grind arith
 
 -- the first deed, over other deeds with the same value in its row
 pub Replays-head : (d : Deed) (xs ys : List Deed) → Replays (changes_of (d ∷ xs)) → on_row (row_of d) (changes_of xs) ≡ on_row (row_of d) (changes_of ys) → Replays (changes_of ys) → Replays (changes_of (d ∷ ys))
-Replays-head (Changes change) xs ys r e h = (r.0 ∙ value-same change.row (changes_of xs) (changes_of ys) e, h)
-Replays-head (Locks row) xs ys r e h = h
+Replays-head d xs ys r e h = grind (arith, tests, value-same)
 
 replays_on-head : (d : Deed) (all mine : List Deed) (base : List Change) → on_row (row_of d) (changes_of all) ≡ on_row (row_of d) (changes_of mine ++ base) → Replays (changes_of (d ∷ all)) → ReplaysOn base (changes_of mine) → ReplaysOn base (changes_of (d ∷ mine))
-replays_on-head (Changes change) all mine base e r ih = (r.0 ∙ value-same change.row (changes_of all) (changes_of mine ++ base) e, ih)
-replays_on-head (Locks row) all mine base e r ih = ih
+replays_on-head d all mine base e r ih = grind (arith, tests, value-same)
 
 -- what stands of a transaction that isn't committed, with the commits below it
 pub own-first : (k s : ℕ) (x : Xid) (committed : Xid → Option ℕ) (mods : List DeedAt) → committed x ≡ None → Ordered committed mods
@@ -169,8 +149,4 @@ bound f (x ∷ xs) = let rest = bound f xs in (max (f x) rest.0, λ t le. (omega
 
 pub changes_up_to-all : (s : ℕ) (commits : List Commit) → AllByRecursion (λ a. a.commit_scn ≤ s) commits → changes_up_to s commits ≡ changes_in commits
 changes_up_to-all s [] h = refl
-changes_up_to-all s (a ∷ commits) h = here (leb a.commit_scn s) (grind (arith, nat_tests, h.0)) (changes_up_to-all s commits h.1)
-  where
-    here : (t : Bool) → t ≡ true → changes_up_to s commits ≡ changes_in commits → cond t (a.changes ++ changes_up_to s commits) (changes_up_to s commits) ≡ a.changes ++ changes_in commits
-    here true e ih = ap (λ cs. a.changes ++ cs) ih
-    here false e ih = clash false e refl
+changes_up_to-all s (a ∷ commits) h = grind (arith, changes_up_to-all s commits h.1)

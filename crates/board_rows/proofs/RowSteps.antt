@@ -1,4 +1,5 @@
 -- The clauses on rows are kept by a change, by a step back, by an end and by a commit that becomes durable.
+use Rattle.board_rows.proofs.Lists.{tests}
 use Rattle.board_rows.proofs.Lists.{clash, all_map, suffix_here, suffix_map}
 use Rattle.std.proofs.Common.{◌≡◌, ℕ, ◌<◌, Bool, true, false, cond, ◌==◌, max, List, [], ◌∷◌, refl, sym, ap, ◌∙◌, arith, inl, inr, ◌⊎◌}
 use Rattle.std.specs.Prelude.{Option, Some, None}
@@ -28,11 +29,7 @@ of_xid-other y m mods e = rw e refl
 
 pub of_xid-without : (y x : Xid) (seq row : ℕ) (mods : List DeedAt) → same_xid y x ≡ false → of_xid y (without x seq row mods) ≡ of_xid y mods
 of_xid-without y x seq row [] e = refl
-of_xid-without y x seq row (m ∷ mods) e = here (is_that x seq row m) refl (of_xid-without y x seq row mods e)
-  where
-    here : (t : Bool) → is_that x seq row m ≡ t → of_xid y (without x seq row mods) ≡ of_xid y mods → of_xid y (cond t mods (m ∷ without x seq row mods)) ≡ cond (same_xid y m.xid) (m ∷ of_xid y mods) (of_xid y mods)
-    here true f ih = let off : same_xid y m.xid ≡ false = rw (sym (that-is x seq row m f).0) e in rw off refl
-    here false f ih = ap (λ ms. cond (same_xid y m.xid) (m ∷ ms) ms) ih
+of_xid-without y x seq row (m ∷ mods) e = grind (arith, of_xid-without y x seq row mods e)
 
 -- the newest of a transaction is the one that is taken back
 abbrev pub IsNewest : Xid → ℕ → ℕ → List DeedAt → Type 0
@@ -40,61 +37,24 @@ IsNewest x seq row [] = ⊥
 IsNewest x seq row (m ∷ mods) = (is_that x seq row m ≡ true) ⊎ ((same_xid x m.xid ≡ false) × IsNewest x seq row mods)
 
 pub newest-first : (x : Xid) (seq row : ℕ) (mods : List DeedAt) (m : DeedAt) (rest : List DeedAt) → of_xid x mods ≡ m ∷ rest → seq ≡ m.seq → row ≡ row_of m.deed → IsNewest x seq row mods × (of_xid x (without x seq row mods) ≡ rest)
-newest-first x seq row [] m rest e f g = absurd (none e)
-  where
-    none : ◌≡◌ {A = List DeedAt} [] (m ∷ rest) → ⊥
-    none e = (cc)
-newest-first x seq row (o ∷ mods) m rest e f g = here (same_xid x o.xid) refl e (newest-first x seq row mods m rest)
-  where
-    here : (t : Bool) → same_xid x o.xid ≡ t → cond t (o ∷ of_xid x mods) (of_xid x mods) ≡ m ∷ rest → (of_xid x mods ≡ m ∷ rest → seq ≡ m.seq → row ≡ row_of m.deed → IsNewest x seq row mods × (of_xid x (without x seq row mods) ≡ rest))
-        → ((is_that x seq row o ≡ true) ⊎ ((same_xid x o.xid ≡ false) × IsNewest x seq row mods)) × (of_xid x (cond (is_that x seq row o) mods (o ∷ without x seq row mods)) ≡ rest)
-    here true a h ih =
-        let same : o ≡ m = cc in
-        let others : of_xid x mods ≡ rest = cc in
-        let that : is_that x seq row o ≡ true = rw (a, same, f, g, eq-eqb m.seq m.seq refl, eq-eqb (row_of m.deed) (row_of m.deed) refl) refl in
-        (inl that, rw that others)
-    here false a h ih =
-        let rest_is = ih h f g in
-        let off : is_that x seq row o ≡ false = rw a refl in
-        (inr (a, rest_is.0), rw off (rw a rest_is.1))
+newest-first x seq row [] m rest e f g = grind arith
+newest-first x seq row (o ∷ mods) m rest e f g = grind (arith, newest-first x seq row mods m rest)
 
 -- nothing stands over it on its row
 under-other : (x : Xid) (seq row : ℕ) (committed : Xid → Option ℕ) (m : DeedAt) (os : List DeedAt) → committed x ≡ None → same_xid x m.xid ≡ false → AllByRecursion (IsOver committed m) os → IsNewest x seq row os → (row == row_of m.deed) ≡ false
 under-other x seq row committed m [] new a h f = absurd f
-under-other x seq row committed m (o ∷ os) new a h (inr f) = under-other x seq row committed m os new a h.1 f.1
-under-other x seq row committed m (o ∷ os) new a h (inl t) = here (row == row_of m.deed) refl
-  where
-    here : (b : Bool) → (row == row_of m.deed) ≡ b → b ≡ false
-    here false e = refl
-    here true e =
-        let is = that-is x seq row o t in
-        let same : on (row_of m.deed) o ≡ true = rw (sym is.1) e in
-        let other : same_xid m.xid o.xid ≡ false = rw (sym is.0, same_xid-sym m.xid x) a in
-        absurd (no-commit (committed o.xid) (λ c. c < m.scn) (rw (sym is.0) new) (h.0 same other))
+under-other x seq row committed m (o ∷ os) new a h either = grind (arith, tests, under-other x seq row committed m os new a h.1)
 
 value-without : (k : ℕ) (x : Xid) (seq row : ℕ) (mods : List DeedAt) → (row == k) ≡ false → on_row k (changes_of (deeds_in mods)) ≡ on_row k (changes_of (deeds_in (without x seq row mods)))
-value-without k x seq row mods e =
-    on_row-all k mods ∙ (ap changes_of (sym (shown-without k (λ y. true) x seq row mods (λ a. clash (row == k) a e))) ∙ sym (on_row-all k (without x seq row mods)))
+value-without k x seq row mods e = grind (arith, tests, on_row-all, shown-without)
 
 pub Replays-without : (x : Xid) (seq row : ℕ) (committed : Xid → Option ℕ) (mods : List DeedAt) → committed x ≡ None → Ordered committed mods → IsNewest x seq row mods → Replays (changes_of (deeds_in mods)) → Replays (changes_of (deeds_in (without x seq row mods)))
 Replays-without x seq row committed [] new h f r = tt
-Replays-without x seq row committed (m ∷ mods) new h (inl t) r = rw t (Replays-tail m.deed (deeds_in mods) r)
-Replays-without x seq row committed (m ∷ mods) new h (inr f) r = here (is_that x seq row m) (Replays-without x seq row committed mods new h.1 f.1 (Replays-tail m.deed (deeds_in mods) r))
-  where
-    here : (t : Bool) → Replays (changes_of (deeds_in (without x seq row mods))) → Replays (changes_of (deeds_in (cond t mods (m ∷ without x seq row mods))))
-    here true rest = Replays-tail m.deed (deeds_in mods) r
-    here false rest =
-        Replays-head m.deed (deeds_in mods) (deeds_in (without x seq row mods)) r
-        (value-without (row_of m.deed) x seq row mods (under-other x seq row committed m mods new f.0 h.0 f.1)) rest
+Replays-without x seq row committed (m ∷ mods) new h either r = grind (arith, tests, Replays-tail, Replays-head, value-without, under-other, Replays-without x seq row committed mods new h.1)
 
 -- a commit of the history is another's than x, which isn't committed
 made-other : (committed : Xid → Option ℕ) (mods other : List DeedAt) (x : Xid) → committed x ≡ None → ((y : Xid) → same_xid y x ≡ false → of_xid y mods ≡ of_xid y other) → (a : Commit) → IsMade committed mods a → IsMade committed other a
-made-other committed mods other x new same a made =
-    (made.0, made.1 ∙ ap (λ (ms : List DeedAt). changes_of (deeds_in ms)) (same a.xid (differ (same_xid a.xid x) refl)))
-  where
-    differ : (t : Bool) → same_xid a.xid x ≡ t → t ≡ false
-    differ false e = refl
-    differ true e = absurd (let none : None ≡ Some a.commit_scn = sym new ∙ (ap committed (sym (same_xid-true a.xid x e)) ∙ made.0) in cc)
+made-other committed mods other x new same a made = grind arith
 
 module _ {recs : List Record} {committed : Xid → Option ℕ} {commits : List Commit} (rows : RowsStand recs committed commits) where
   pub rows-changes : (s c : ℕ) (x : Xid) (seq : ℕ) (deed : Deed) → s < c → committed x ≡ None
@@ -129,13 +89,7 @@ module _ {recs : List Record} {committed : Xid → Option ℕ} {commits : List C
 
   -- an end changes no row
   pub rows-ends : (r : Record) → stands (r ∷ recs) ≡ stands recs → RowsStand (r ∷ recs) committed commits
-  rows-ends r same = record {
-    order = (rw same (suffix_here (λ older. Ordered committed (stands older)) recs rows.order), rows.order);
-    deeds_replay = (rw same (suffix_here (λ older. Replays (changes_of (deeds_in (stands older)))) recs rows.deeds_replay), rows.deeds_replay);
-    table = λ t k. rw same (rows.table t k);
-    made = rw same rows.made;
-    replay = rows.replay;
-  }
+  rows-ends r same = grind (arith, tests, suffix_here)
 
   pub rows-clear : (x : Xid) (a : Commit) → committed x ≡ None → a.changes ≡ changes_of (deeds_in (of_xid x (stands recs)))
       → AllByRecursion (λ m. same_xid x m.xid ≡ true → m.scn < a.commit_scn) (stands recs) → AllByRecursion (IsClear a) commits

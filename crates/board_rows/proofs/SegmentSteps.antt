@@ -1,4 +1,5 @@
 -- The clauses on segments are kept.
+use Rattle.board_rows.proofs.Lists.{tests}
 use Rattle.board_rows.proofs.Lists.{pair_map, pair_both, pair_filter, all_of, all_map, all_both, clash, all_filter}
 use Rattle.std.proofs.Common.{◌≡◌, ◌≢◌, ℕ, ◌<◌, ◌≤◌, Bool, true, false, cond, ◌==◌, List, [], ◌∷◌, refl, sym, ◌∙◌, arith, inl, inr}
 use Rattle.std.specs.Prelude.{Option, Some, None}
@@ -29,24 +30,18 @@ under-more old now rise recs = pair_map _ _ recs (λ r o. one r o)
 
 -- what has entered is kept
 safe-kept : (i kept : ℕ) (durable : ℕ → ℕ) → durable i ≤ kept → (r : Record) → scn_of r ≤ durable (thread_of r) → Kept i kept r ≡ true
-safe-kept i kept durable low r le = here (thread_of r == i) refl le
-  where
-    here : (t : Bool) → (thread_of r == i) ≡ t → scn_of r ≤ durable (thread_of r) → Kept i kept r ≡ true
-    here false e le = kept-other i kept r e
-    here true e le = kept-low i kept r (let at_i : scn_of r ≤ durable i = rw (eqb-true (thread_of r) i e) at le in omega (arith, at_i, low))
+safe-kept i kept durable low r le = grind arith
 
 -- an end leaves the other transactions as they were
 still : (st : Stage) (end : Option ℕ) (t live up : Bool) → (st ≡ Active → up ≡ true → live ≡ true) → cond t (Over end) st ≡ Active → up ≡ true → cond t false live ≡ true
-still st end true live up h e is = absurd (let bad : ◌≡◌ {A = Stage} (Over end) Active = e in cc)
-still st end false live up h e is = h e is
+still st end t live up h e is = grind arith
 
 module _ {recs : List Record} {durable : ℕ → ℕ} {live : Xid → Bool} {up : ℕ → Bool} (h : Segments recs durable live up) where
   abbrev WasSafe : Record → Type 0
   WasSafe r = up (xid_of r).seg ≡ true → IsSafe durable r
 
   fewer : (y : Xid) (t : Bool) → cond t false (live y) ≡ true → up y.seg ≡ true
-  fewer y true e = clash false e refl
-  fewer y false e = h.lives y e
+  fewer y t e = grind arith
 
   pub segments-changes : (c : ℕ) (x : Xid) (seq : ℕ) (deed : Deed) → up x.seg ≡ true → Segments (Does c x seq deed ∷ recs) durable (λ y. cond (same_xid y x) true (live y)) up
   segments-changes c x seq deed is = record {
@@ -145,10 +140,4 @@ module _ {recs : List Record} {durable : ℕ → ℕ} {live : Xid → Bool} {up 
 
 -- what a loss keeps of a segment
 pub keeps-segments : (i kept : ℕ) (durable : ℕ → ℕ) → durable i ≤ kept → (recs : List Record) → Rising recs → AreOnSafe durable recs → KeepsSegments i kept recs
-keeps-segments i kept durable low recs = pair_both _ _ _ recs one
-  where
-    one : (r o : Record) → (thread_of o ≡ thread_of r → scn_of o < scn_of r) → ForSegment (IsSafe durable) r o → Kept i kept r ≡ true → ForSegment (λ o. Kept i kept o ≡ true) r o
-    one (Does c x seq d) o rises safe k = λ e. elim (safe e) [ inl own ↦ older-kept i kept (Does c x seq d) o k rises (own ∙ e) | inr le ↦ safe-kept i kept durable low o le ]
-    one (TakesBack j c x seq row) o rises safe k = tt
-    one (Commits c x) o rises safe k = tt
-    one (RollsBack j c x) o rises safe k = tt
+keeps-segments i kept durable low recs = grind (arith, tests, pair_both, Kept, older-kept, safe-kept)

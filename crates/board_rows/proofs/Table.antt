@@ -1,6 +1,7 @@
 -- One more commit in the history, and the table.
+use Rattle.board_rows.proofs.Lists.{tests}
 use Rattle.board_rows.proofs.Lists.{clash}
-use Rattle.std.proofs.Common.{◌≡◌, ℕ, Bool, true, false, cond, ◌||◌, List, [], ◌∷◌, ◌++◌, refl, sym, ap, ◌∙◌, leb, inl, inr, ◌⊎◌}
+use Rattle.std.proofs.Common.{◌≡◌, ℕ, Bool, true, false, cond, ◌||◌, List, [], ◌∷◌, ◌++◌, refl, sym, ap, ◌∙◌, leb, inl, inr, ◌⊎◌, arith}
 use Rattle.std.specs.Prelude.{Option, Some, None}
 use Rattle.std.specs.List.{AllByRecursion}
 use Rattle.std.proofs.lemmas.List.Elements.{filter-append}
@@ -24,18 +25,10 @@ abbrev at_s : ℕ → Commit → List Change
 at_s s a = cond (leb a.commit_scn s) a.changes []
 
 row-cons : (k s : ℕ) (a : Commit) (commits : List Commit) → on_row k (changes_up_to s (a ∷ commits)) ≡ on_row k (at_s s a) ++ on_row k (changes_up_to s commits)
-row-cons k s a commits = here (leb a.commit_scn s)
-  where
-    here : (t : Bool) → on_row k (cond t (a.changes ++ changes_up_to s commits) (changes_up_to s commits)) ≡ on_row k (cond t a.changes []) ++ on_row k (changes_up_to s commits)
-    here true = filter-append _ a.changes (changes_up_to s commits)
-    here false = refl
+row-cons k s a commits = grind (arith, tests, filter-append)
 
 row-none : (k s : ℕ) (b : Commit) → on_row k b.changes ≡ [] → on_row k (at_s s b) ≡ []
-row-none k s b h = here (leb b.commit_scn s)
-  where
-    here : (t : Bool) → on_row k (cond t b.changes []) ≡ []
-    here true = h
-    here false = refl
+row-none k s b h = grind arith
 
 -- in each row one more commit comes first
 pub row-entered : (k s : ℕ) (a : Commit) (commits : List Commit) → AllByRecursion (IsClear a) commits → on_row k (changes_up_to s (entered a commits)) ≡ on_row k (at_s s a) ++ on_row k (changes_up_to s commits)

@@ -107,15 +107,4 @@ module _ {recs : List Record} {durable : ℕ → ℕ} {stand : Xid → List Deed
       rest y true e never = absurd (never c (ap (Commits c) (same_xid-true y x e)))
 
   pub apart-commit : (d : ℕ) (x : Xid) → durable x.seg < d → (c j : ℕ) → put durable x.seg d j < c → ((c == d && j == x.seg) || has_commit c j) ≡ false
-  apart-commit d x up c j lt = here (c == d) refl (j == x.seg) refl
-    where
-      rest : has_commit c j ≡ false
-      rest = apart-quiet x.seg d up c j lt
-
-      here : (t : Bool) → (c == d) ≡ t → (u : Bool) → (j == x.seg) ≡ u → ((t && u) || has_commit c j) ≡ false
-      here false e u f = rest
-      here true e false f = rest
-      here true e true f =
-          let same : c ≡ d = eqb-true c d e in
-          let at_seg : put durable x.seg d j ≡ d = rw (eqb-true j x.seg f) (put-here durable x.seg d) in
-          absurd (omega (arith, lt, same, at_seg))
+  apart-commit d x up c j lt = grind arith

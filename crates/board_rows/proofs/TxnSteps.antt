@@ -1,4 +1,5 @@
 -- The clauses on transactions are kept.
+use Rattle.board_rows.proofs.Lists.{tests}
 use Rattle.board_rows.proofs.Lists.{all_map, all_both, clash}
 use Rattle.std.proofs.Common.{◌≡◌, ◌≢◌, ℕ, ◌-◌, ◌<◌, Bool, true, false, cond, ◌&&◌, ◌||◌, ◌==◌, List, [], ◌∷◌, length, drop, refl, sym, ap, ◌∙◌, subst, arith, eqb, inl, inr, ◌⊎◌}
 use Rattle.std.specs.Prelude.{Option, Some, None}
@@ -57,9 +58,7 @@ active-begun x (RollsBack i c y ∷ recs) e = here (same_xid x y) e (active-begu
 
 -- nothing follows an end
 pub stops : (r : Record) (st : Stage) (o : Option ℕ) → MayFollow r st → st ≡ Over o → ⊥
-stops r (Over p) o g e = g
-stops r Active o g e = cc
-stops r Fresh o g e = cc
+stops r st o g e = grind arith
 
 -- each record's transaction has begun
 pub begun-all : (recs : List Record) → Follows recs → AllByRecursion (λ r. begun (xid_of r) recs ≡ true) recs
@@ -110,8 +109,7 @@ module _ {recs : List Record} {durable : ℕ → ℕ} {stand : Xid → List Deed
     (txns : Txns recs durable stand live mark has_mark committed has_commit) where
   -- a transaction that may go on hasn't ended
   pub goes-stage : (x : Xid) → MayGoOn recs live x → (stage x recs ≡ Active) ⊎ (stage x recs ≡ Fresh)
-  goes-stage x (inl e) = inl ((txns.each x).active e)
-  goes-stage x (inr e) = inr e
+  goes-stage x either = grind arith
 
   pub active-new : (x : Xid) → stage x recs ≡ Active → committed x ≡ None
   active-new x e = (txns.each x).commits ∙ ap (durable_commit (durable x.seg)) e
@@ -123,33 +121,17 @@ module _ {recs : List Record} {durable : ℕ → ℕ} {stand : Xid → List Deed
   active-open x e o f = let bad : Active ≡ Over o = sym e ∙ f in cc
 
   goes-open : (x : Xid) → MayGoOn recs live x → (o : Option ℕ) → stage x recs ≢ Over o
-  goes-open x goes o f = elim (goes-stage x goes) [
-    | inl e ↦ active-open x e o f
-    | inr e ↦ (let bad : Fresh ≡ Over o = sym e ∙ f in cc)
-  ]
+  goes-open x goes o f = grind arith
 
   goes-on : (c : ℕ) (x : Xid) (seq : ℕ) (deed : Deed) → MayGoOn recs live x → MayFollow (Does c x seq deed) (stage x recs)
   goes-on c x seq deed goes = elim (goes-stage x goes) [ inl e ↦ rw e tt | inr e ↦ rw e tt ]
 
   -- a record of one that may go on is no commit, and is in its own thread
   live-own : (x : Xid) (r : Record) → live x ≡ true → x ≡ xid_of r → RecordIsIn recs live r → thread_of r ≡ (xid_of r).seg
-  live-own x r l is h = h.own (rw (sym is) (can (stage x recs) ((txns.each x).active l)))
-    where
-      can : (st : Stage) → st ≡ Active → CanCommit (live x) st
-      can Active f = l
-      can Fresh f = l
-      can (Over o) f = (cc)
+  live-own x r l is h = grind arith
 
   goes-rec : (x : Xid) (r : Record) → MayGoOn recs live x → x ≡ xid_of r → begun (xid_of r) recs ≡ true → RecordIsIn recs live r → RecordAgrees Active true r
-  goes-rec x r goes is has h = record { ends = ends r is h; own = λ _. own goes }
-    where
-      ends : (r : Record) → x ≡ xid_of r → RecordIsIn recs live r → EndsBy Active r
-      ends (Commits c y) is h = absurd (goes-open x goes (Some c) (ap (λ z. stage z recs) is ∙ h.ends))
-      ends _ is h = tt
-
-      own : MayGoOn recs live x → thread_of r ≡ (xid_of r).seg
-      own (inl l) = live-own x r l is h
-      own (inr f) = absurd (begun-used x recs (rw is has) f)
+  goes-rec x r goes is has h = grind (arith, tests, goes-open, live-own, begun-used)
 
   -- a change or a lock
   pub txns-changes : (c : ℕ) (x : Xid) (seq : ℕ) (deed : Deed) → MayGoOn recs live x
@@ -179,31 +161,7 @@ module _ {recs : List Record} {durable : ℕ → ℕ} {stand : Xid → List Deed
   -- a step back
   pub txns-back : (i c : ℕ) (x : Xid) (seq row left : ℕ) (m : DeedAt) (rest : List DeedAt) → stage x recs ≡ Active → (live x ≡ true → i ≡ x.seg) → of_xid x (stands recs) ≡ m ∷ rest → of_xid x (without x seq row (stands recs)) ≡ rest → (live x ≡ true → left ≡ length rest)
       → Txns (TakesBack i c x seq row ∷ recs) durable (λ y. cond (same_xid y x) (drop (length (stand y) - left) (stand y)) (stand y)) live mark has_mark committed has_commit
-  txns-back i c x seq row left m rest is own newest less stays = record {
-    each = λ y. each y (same_xid y x) refl;
-    each_record = (record { ends = rw is tt; own = λ can. own (live_of (stage x recs) is can) }, txns.each_record);
-    follows = (rw is tt, txns.follows);
-    apart = txns.apart;
-  }
-    where
-      live_of : (st : Stage) → st ≡ Active → CanCommit (live x) st → live x ≡ true
-      live_of Active e can = can
-      live_of Fresh e can = can
-      live_of (Over o) e can = (cc)
-
-      shorter : (ds : List Deed) → ds ≡ deeds_in (m ∷ rest) → left ≡ length rest → drop (length ds - left) ds ≡ deeds_in rest
-      shorter ds e l = rw (e, l) (let one : length (deeds_in (m ∷ rest)) - length rest ≡ 1 = simp length-map (omega arith) in rw one refl)
-
-      stands_x : MayGoOn recs live x → drop (length (stand x) - left) (stand x) ≡ deeds_in rest
-      stands_x (inl l) = shorter (stand x) ((txns.each x).stands (inl l) ∙ ap (λ (ms : List DeedAt). deeds_in ms) newest) (stays l)
-      stands_x (inr f) = absurd (let bad : Active ≡ Fresh = sym is ∙ f in cc)
-
-      at_x : TxnAgrees (stage x recs) (deeds_in rest) (drop (length (stand x) - left) (stand x)) (live x) (mark x) (has_mark x) (committed x) (durable x.seg)
-      at_x = record { active = (txns.each x).active; stands = stands_x; marks = λ e f. absurd (active-open x is (Some e) f); commits = (txns.each x).commits; rolled = λ f. absurd (active-open x is None f) }
-
-      each : (y : Xid) (t : Bool) → same_xid y x ≡ t → TxnAgrees (stage y recs) (deeds_in (of_xid y (without x seq row (stands recs)))) (cond t (drop (length (stand y) - left) (stand y)) (stand y)) (live y) (mark y) (has_mark y) (committed y) (durable y.seg)
-      each y false e = rw (of_xid-without y x seq row (stands recs) e) (txns.each y)
-      each y true e = rw (same_xid-true y x e, less) at_x
+  txns-back i c x seq row left m rest is own newest less stays = grind (arith, tests, length-map, active-open, of_xid-without)
 
   -- a commit's record
   pub txns-marks : (c : ℕ) (x : Xid) → live x ≡ true → durable x.seg < c → AllByRecursion (λ r. same_xid (xid_of r) x ≡ true → scn_of r < c) recs
