@@ -36,22 +36,7 @@ going r st o g a = grind arith
 
 ended-agrees : (x : Xid) (recs : List Record) → Follows recs → Agrees (stage x recs) (ended x recs)
 ended-agrees x [] f = tt
-ended-agrees x (Does c y seq d ∷ recs) f = here (same_xid x y) refl (ended-agrees x recs f.1)
-  where
-    here : (t : Bool) → same_xid x y ≡ t → Agrees (stage x recs) (ended x recs) → Agrees (cond t Active (stage x recs)) (ended x recs)
-    here true e ih = going (Does c y seq d) (stage x recs) (ended x recs) (rw (same_xid-true x y e) f.0) ih
-    here false e ih = ih
-ended-agrees x (TakesBack i c y seq row ∷ recs) f = ended-agrees x recs f.1
-ended-agrees x (Commits c y ∷ recs) f = here (same_xid x y) (ended-agrees x recs f.1)
-  where
-    here : (t : Bool) → Agrees (stage x recs) (ended x recs) → Agrees (cond t (Over (Some c)) (stage x recs)) (cond t (Some c) (ended x recs))
-    here true ih = refl
-    here false ih = ih
-ended-agrees x (RollsBack i c y ∷ recs) f = here (same_xid x y) (ended-agrees x recs f.1)
-  where
-    here : (t : Bool) → Agrees (stage x recs) (ended x recs) → Agrees (cond t (Over None) (stage x recs)) (cond t (Some c) (ended x recs))
-    here true ih = tt
-    here false ih = ih
+ended-agrees x (r ∷ recs) f = grind (arith, ended-agrees x recs)
 
 -- nothing follows an end
 stays-over : (x : Xid) (o : Option ℕ) (newer head : List Record) → Follows (newer ++ head) → stage x head ≡ Over o → stage x (newer ++ head) ≡ Over o
@@ -70,14 +55,7 @@ none-shows k (m ∷ mods) e = grind arith
 -- a commit is there, or its record came since
 commit-since : (P : Record → Type 0) (x : Xid) (c : ℕ) (newer head : List Record) → AllByRecursion P newer → stage x (newer ++ head) ≡ Over (Some c) → P (Commits c x) ⊎ (stage x head ≡ Over (Some c))
 commit-since P x c [] head h is = inr is
-commit-since P x c (r ∷ newer) head h is = here r (same_xid x (xid_of r)) refl h.0 is (commit-since P x c newer head h.1)
-  where
-    here : (r : Record) (t : Bool) → same_xid x (xid_of r) ≡ t → P r → stage x (r ∷ newer ++ head) ≡ Over (Some c) → (stage x (newer ++ head) ≡ Over (Some c) → P (Commits c x) ⊎ (stage x head ≡ Over (Some c))) → P (Commits c x) ⊎ (stage x head ≡ Over (Some c))
-    here r false e p is ih = ih (sym (after-stage x r (newer ++ head) e) ∙ is)
-    here (Does d y seq deed) true e p is ih = absurd (let bad : Active ≡ Over (Some c) = rw e at is in cc)
-    here (TakesBack j d y seq row) true e p is ih = ih is
-    here (RollsBack j d y) true e p is ih = absurd (let over : ◌≡◌ {A = Stage} (Over None) (Over (Some c)) = rw e at is in let bad : ◌≡◌ {A = Option ℕ} None (Some c) = cc in cc)
-    here (Commits d y) true e p is ih = inl (let over : ◌≡◌ {A = Stage} (Over (Some d)) (Over (Some c)) = rw e at is in let same : d ≡ c = cc in rw (sym same, same_xid-true x y e) p)
+commit-since P x c (r ∷ newer) head h is = grind (arith, commit-since P x c newer)
 
 -- a deed that stands on a row is shown there
 shown-some : (k : ℕ) (x : Xid) (m : DeedAt) (mods more : List DeedAt) → on k m ≡ true → same_xid x m.xid ≡ true → shown k (same_xid x) (more ++ m ∷ mods) ≡ [] → ⊥

@@ -33,10 +33,7 @@ SameDurable old now _ = Unit {0}
 
 logged-same : (old now : ℕ → ℕ) (recs : List Record) → AllByRecursion (SameDurable old now) recs → logged now recs ≡ logged old recs
 logged-same old now [] h = refl
-logged-same old now (Commits c x ∷ recs) h = rw (h.0, logged-same old now recs h.1) refl
-logged-same old now (Does c x seq d ∷ recs) h = logged-same old now recs h.1
-logged-same old now (TakesBack i c x seq row ∷ recs) h = logged-same old now recs h.1
-logged-same old now (RollsBack i c x ∷ recs) h = logged-same old now recs h.1
+logged-same old now (r ∷ recs) h = grind (arith, logged-same old now recs)
 
 module _ (durable : ℕ → ℕ) (r : Record) (new : durable (thread_of r) < scn_of r) where
   abbrev now : ℕ → ℕ

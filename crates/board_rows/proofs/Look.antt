@@ -1,4 +1,5 @@
 -- What a look at a row shows is what the session sees, and it is settled.
+use Rattle.board_rows.proofs.Lists.{tests}
 use Rattle.board_rows.proofs.Lists.{all_map, all_both, all_append, clash, suffix_here}
 use Rattle.std.proofs.Common.{◌≡◌, ℕ, suc, ◌<◌, ◌≤◌, Bool, true, false, cond, ◌||◌, leb, List, [], ◌∷◌, ◌++◌, refl, sym, ap, ◌∙◌, subst, arith, inl, inr, ◌⊎◌}
 use Rattle.std.specs.Prelude.{Option, Some, None, IsSomeAnd}
@@ -45,18 +46,12 @@ OfRec P _ = Unit {0}
 
 stands-since : (P : DeedAt → Type 0) (newer there : List Record) → AllByRecursion P (stands there) → AllByRecursion (OfRec P) newer → AllByRecursion P (stands (newer ++ there))
 stands-since P [] there h n = h
-stands-since P (Does c x seq d ∷ newer) there h n = (n.0, stands-since P newer there h n.1)
-stands-since P (TakesBack i c x seq row ∷ newer) there h n = all_without P x seq row (stands (newer ++ there)) (stands-since P newer there h n.1)
-stands-since P (Commits c x ∷ newer) there h n = stands-since P newer there h n.1
-stands-since P (RollsBack i c x ∷ newer) there h n = stands-since P newer there h n.1
+stands-since P (r ∷ newer) there h n = grind (arith, tests, all_without, stands-since P newer)
 
 -- what holds of each change holds of what stands
 pub stands-from : (P : DeedAt → Type 0) (recs : List Record) → AllByRecursion (OfRec P) recs → AllByRecursion P (stands recs)
 stands-from P [] n = tt
-stands-from P (Does c x seq d ∷ recs) n = (n.0, stands-from P recs n.1)
-stands-from P (TakesBack i c x seq row ∷ recs) n = all_without P x seq row (stands recs) (stands-from P recs n.1)
-stands-from P (Commits c x ∷ recs) n = stands-from P recs n.1
-stands-from P (RollsBack i c x ∷ recs) n = stands-from P recs n.1
+stands-from P (r ∷ recs) n = grind (arith, tests, all_without, stands-from P recs)
 
 -- a deed is below its commit
 below-commit : (c d e : ℕ) (st : Stage) → IsBelow c st → durable_commit d st ≡ Some e → c < e

@@ -128,18 +128,7 @@ module _ (i kept : ℕ) where
 
   pub commit-whole : (x : Xid) (c : ℕ) (recs : List Record) → KeepsUnder i kept recs → Follows recs → stage x recs ≡ Over (Some c) → Kept (Commits c x) ≡ true → AllKept x recs
   commit-whole x c [] l f e k = tt
-  commit-whole x c (r ∷ recs) l f e k = here r (same_xid x (xid_of r)) refl e f.0 l.0 (λ g. commit-whole x c recs l.1 f.1 g k)
-    where
-      here : (r : Record) (t : Bool) → same_xid x (xid_of r) ≡ t → stage x (r ∷ recs) ≡ Over (Some c) → MayFollow r (stage (xid_of r) recs) → AllByRecursion (λ o. Kept r ≡ true → AreNear r o → Kept o ≡ true) recs → (stage x recs ≡ Over (Some c) → AllKept x recs) → (same_xid x (xid_of r) ≡ true → Kept r ≡ true) × AllKept x recs
-      here r false g e goes near ih = ((λ y. clash (same_xid x (xid_of r)) y g), ih (sym (after-stage x r recs g) ∙ e))
-      here (Does d y seq deed) true g e goes near ih = absurd (let bad : Active ≡ Over (Some c) = rw g at e in cc)
-      here (TakesBack j d y seq row) true g e goes near ih = absurd (stops (TakesBack j d y seq row) (stage y recs) (Some c) goes (rw (sym (same_xid-true x y g)) e))
-      here (RollsBack j d y) true g e goes near ih = absurd (let over : ◌≡◌ {A = Stage} (Over None) (Over (Some c)) = rw g at e in let bad : ◌≡◌ {A = Option ℕ} None (Some c) = cc in cc)
-      here (Commits d y) true g e goes near ih =
-          let over : ◌≡◌ {A = Stage} (Over (Some d)) (Over (Some c)) = rw g at e in
-          let same : c ≡ d = cc in
-          let here_kept : Kept (Commits d y) ≡ true = rw (sym same, sym (same_xid-true x y g)) k in
-          ((λ _. here_kept), near-xid x (Commits d y) recs g here_kept near)
+  commit-whole x c (r ∷ recs) l f e k = grind (arith, tests, after-stage, stops, near-xid, commit-whole x c recs)
 
   pub follows-kept : (recs : List Record) → KeepsUnder i kept recs → Follows recs → Follows (filter Kept recs)
   follows-kept [] l f = tt

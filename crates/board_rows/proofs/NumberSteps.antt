@@ -15,21 +15,7 @@ use Rattle.board_rows.proofs.Losses.{older-kept, Kept, kept-other, own-other, be
 -- a transaction that has begun is within the wraps of its slot
 wrap-begun : (x : Xid) (recs : List Record) → begun x recs ≡ true → x.wrap ≤ wrap_in x.seg x.slot recs
 wrap-begun x [] h = clash false h refl
-wrap-begun x (Does c y seq d ∷ recs) h = here (same_xid x y) refl h (wrap-begun x recs)
-  where
-    up : (t : Bool) (w : ℕ) → x.wrap ≤ w → x.wrap ≤ cond t (max y.wrap w) w
-    up true w le = omega (arith, le)
-    up false w le = le
-
-    here : (t : Bool) → same_xid x y ≡ t → cond t true (begun x recs) ≡ true → (begun x recs ≡ true → x.wrap ≤ wrap_in x.seg x.slot recs) → x.wrap ≤ cond (x.seg == y.seg && x.slot == y.slot) (max y.wrap (wrap_in x.seg x.slot recs)) (wrap_in x.seg x.slot recs)
-    here false e h ih = up (x.seg == y.seg && x.slot == y.slot) (wrap_in x.seg x.slot recs) (ih h)
-    here true e h ih =
-        let parts = both_true (x.seg == y.seg && x.slot == y.slot) (x.wrap == y.wrap) e in
-        let same : x.wrap ≡ y.wrap = eqb-true x.wrap y.wrap parts.1 in
-        rw parts.0 (omega (arith, same))
-wrap-begun x (TakesBack i c y seq row ∷ recs) h = wrap-begun x recs h
-wrap-begun x (Commits c y ∷ recs) h = wrap-begun x recs h
-wrap-begun x (RollsBack i c y ∷ recs) h = wrap-begun x recs h
+wrap-begun x (r ∷ recs) h = grind (arith, wrap-begun x recs)
 
 -- one more transaction has ended, which has begun
 pub ended-more : (recs : List Record) (y x : Xid) (t : Bool) → same_xid y x ≡ t → (has : Bool) → begun x recs ≡ true → (has ≡ true → begun y recs ≡ true) → cond t true has ≡ true → begun y recs ≡ true

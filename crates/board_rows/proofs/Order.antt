@@ -66,11 +66,7 @@ Ordered-committed x c old now mods more = pair_map _ _ mods (λ m o f. over-comm
 
 pub all_without : (P : DeedAt → Type 0) (x : Xid) (seq row : ℕ) (mods : List DeedAt) → AllByRecursion P mods → AllByRecursion P (without x seq row mods)
 all_without P x seq row [] h = tt
-all_without P x seq row (m ∷ mods) h = here (is_that x seq row m) (all_without P x seq row mods h.1)
-  where
-    here : (t : Bool) → AllByRecursion P (without x seq row mods) → AllByRecursion P (cond t mods (m ∷ without x seq row mods))
-    here true ih = h.1
-    here false ih = (h.0, ih)
+all_without P x seq row (m ∷ mods) h = grind (arith, all_without P x seq row mods)
 
 -- what holds of each pair does where one is taken back
 pub pair_without : (R : DeedAt → DeedAt → Type 0) (x : Xid) (seq row : ℕ) (mods : List DeedAt) → EachPair R mods → EachPair R (without x seq row mods)

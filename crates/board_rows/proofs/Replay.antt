@@ -50,20 +50,7 @@ Replays-split (change ∷ older) base r = let rest = Replays-split older base r.
 -- bases that agree in each row that has changes
 pub ReplaysOn-same : (changes base other : List Change) → ((k : ℕ) → (on_row k changes ≡ []) ⊎ (on_row k base ≡ on_row k other)) → ReplaysOn base changes → ReplaysOn other changes
 ReplaysOn-same [] base other e h = tt
-ReplaysOn-same (change ∷ older) base other e h =
-    (h.0 ∙ value-below change.row older base other (same (e change.row)), ReplaysOn-same older base other (λ k. tail k (change.row == k) (e k)) h.1)
-  where
-    some : (cs : List Change) → (change ∷ cs) ≡ [] → ⊥
-    some cs e = cc
-
-    same : (on_row change.row (change ∷ older) ≡ []) ⊎ (on_row change.row base ≡ on_row change.row other) → on_row change.row base ≡ on_row change.row other
-    same (inr e) = e
-    same (inl e) = absurd (some (on_row change.row older) (rw (eq-eqb change.row change.row refl) at e))
-
-    tail : (k : ℕ) (t : Bool) → (cond t (change ∷ on_row k older) (on_row k older) ≡ []) ⊎ (on_row k base ≡ on_row k other) → (on_row k older ≡ []) ⊎ (on_row k base ≡ on_row k other)
-    tail k t (inr e) = inr e
-    tail k true (inl e) = absurd (some (on_row k older) e)
-    tail k false (inl e) = inl e
+ReplaysOn-same (change ∷ older) base other e h = grind (arith, tests, value-below, ReplaysOn-same older)
 
 none_either : (k : ℕ) (xs ys : List Change) → on_row k xs ≡ [] → on_row k (xs ++ ys) ≡ on_row k ys
 none_either k xs ys e = filter-append _ xs ys ∙ ap (λ cs. cs ++ on_row k ys) e

@@ -24,38 +24,16 @@ use Rattle.board_rows.proofs.ClockSteps.{put-all, put-rises, put-here}
 -- nothing of a transaction has committed
 pub none-stood : (x : Xid) (past : Past) → committed_at x past ≡ None → stood (is_commit x) past ≡ false
 none-stood x [] h = refl
-none-stood x (Committed y c i ∷ past) h = here (same_xid x y) h (none-stood x past)
-  where
-    here : (t : Bool) → cond t (Some c) (committed_at x past) ≡ None → (committed_at x past ≡ None → stood (is_commit x) past ≡ false) → (t || stood (is_commit x) past) ≡ false
-    here true h ih = absurd (let bad : ◌≡◌ {A = Option ℕ} (Some c) None = h in cc)
-    here false h ih = ih h
-none-stood x (_ ∷ past) h = none-stood x past h
+none-stood x (y ∷ past) h = grind (arith, none-stood x past)
 
 pub some-stood : (x : Xid) (c : ℕ) (past : Past) → committed_at x past ≡ Some c → stood (is_commit_at x c) past ≡ true
-some-stood x c [] h = absurd (let bad : ◌≡◌ {A = Option ℕ} None (Some c) = h in cc)
-some-stood x c (Committed y d i ∷ past) h = here (same_xid x y) h (some-stood x c past)
-  where
-    right : (a : Bool) → (a || true) ≡ true
-    right true = refl
-    right false = refl
-
-    here : (t : Bool) → cond t (Some d) (committed_at x past) ≡ Some c → (committed_at x past ≡ Some c → stood (is_commit_at x c) past ≡ true) → ((t && c == d) || stood (is_commit_at x c) past) ≡ true
-    here true h ih = let same : d ≡ c = cc in rw (eq-eqb c d (sym same)) refl
-    here false h ih = ih h
-some-stood x c (_ ∷ past) h = some-stood x c past h
+some-stood x c [] h = grind arith
+some-stood x c (y ∷ past) h = grind (arith, some-stood x c past)
 
 -- who holds a row has a deed there that stands
 any-on : (k s : ℕ) (x y : Xid) (committed : Xid → Option ℕ) (mods : List DeedAt) → list_any (λ deed. row_of deed == k) (deeds_in (of_xid y mods)) ≡ true → AllByRecursion (IsFree committed s x k) mods → (y ≡ x) ⊎ IsSomeAnd (committed y) (λ c. c ≤ s)
 any-on k s x y committed [] h free = clash false h refl
-any-on k s x y committed (m ∷ mods) h free = here (same_xid y m.xid) refl h (λ g. any-on k s x y committed mods g free.1)
-  where
-    here : (t : Bool) → same_xid y m.xid ≡ t → list_any (λ deed. row_of deed == k) (deeds_in (cond t (m ∷ of_xid y mods) (of_xid y mods))) ≡ true → (list_any (λ deed. row_of deed == k) (deeds_in (of_xid y mods)) ≡ true → (y ≡ x) ⊎ IsSomeAnd (committed y) (λ c. c ≤ s)) → (y ≡ x) ⊎ IsSomeAnd (committed y) (λ c. c ≤ s)
-    here false e h ih = ih h
-    here true e h ih = row (on k m) refl h
-      where
-        row : (o : Bool) → on k m ≡ o → (o || list_any (λ deed. row_of deed == k) (deeds_in (of_xid y mods))) ≡ true → (y ≡ x) ⊎ IsSomeAnd (committed y) (λ c. c ≤ s)
-        row false a h = ih h
-        row true a h = rw (same_xid-true y m.xid e) (free.0 a)
+any-on k s x y committed (m ∷ mods) h free = grind (arith, any-on k s x y committed mods)
 
 -- no other transaction holds a row where it is changed
 pub row-free : (k s : ℕ) (x : Xid) (past : Past) (committed : Xid → Option ℕ) (mods : List DeedAt) → ((y : Xid) → is_open y past ≡ true → (committed y ≡ None) × (standing y past ≡ deeds_in (of_xid y mods))) → AllByRecursion (IsFree committed s x k) mods

@@ -20,41 +20,11 @@ use Rattle.board_rows.proofs.RowSteps.{of_xid-without}
 -- what has begun isn't fresh, and what is active has begun
 pub begun-used : (x : Xid) (recs : List Record) → begun x recs ≡ true → stage x recs ≡ Fresh → ⊥
 begun-used x [] b e = clash false b refl
-begun-used x (Does c y seq d ∷ recs) b e = here (same_xid x y) b e (begun-used x recs)
-  where
-    here : (t : Bool) → cond t true (begun x recs) ≡ true → cond t Active (stage x recs) ≡ Fresh → (begun x recs ≡ true → stage x recs ≡ Fresh → ⊥) → ⊥
-    here true b e ih = cc
-    here false b e ih = ih b e
-begun-used x (TakesBack i c y seq row ∷ recs) b e = begun-used x recs b e
-begun-used x (Commits c y ∷ recs) b e = here (same_xid x y) e (begun-used x recs b)
-  where
-    here : (t : Bool) → cond t (Over (Some c)) (stage x recs) ≡ Fresh → (stage x recs ≡ Fresh → ⊥) → ⊥
-    here true e ih = cc
-    here false e ih = ih e
-begun-used x (RollsBack i c y ∷ recs) b e = here (same_xid x y) e (begun-used x recs b)
-  where
-    here : (t : Bool) → cond t (Over None) (stage x recs) ≡ Fresh → (stage x recs ≡ Fresh → ⊥) → ⊥
-    here true e ih = cc
-    here false e ih = ih e
+begun-used x (r ∷ recs) b e = grind (arith, begun-used x recs)
 
 pub active-begun : (x : Xid) (recs : List Record) → stage x recs ≡ Active → begun x recs ≡ true
 active-begun x [] e = (cc)
-active-begun x (Does c y seq d ∷ recs) e = here (same_xid x y) e (active-begun x recs)
-  where
-    here : (t : Bool) → cond t Active (stage x recs) ≡ Active → (stage x recs ≡ Active → begun x recs ≡ true) → cond t true (begun x recs) ≡ true
-    here true e ih = refl
-    here false e ih = ih e
-active-begun x (TakesBack i c y seq row ∷ recs) e = active-begun x recs e
-active-begun x (Commits c y ∷ recs) e = here (same_xid x y) e (active-begun x recs)
-  where
-    here : (t : Bool) → cond t (Over (Some c)) (stage x recs) ≡ Active → (stage x recs ≡ Active → begun x recs ≡ true) → begun x recs ≡ true
-    here true e ih = (cc)
-    here false e ih = ih e
-active-begun x (RollsBack i c y ∷ recs) e = here (same_xid x y) e (active-begun x recs)
-  where
-    here : (t : Bool) → cond t (Over None) (stage x recs) ≡ Active → (stage x recs ≡ Active → begun x recs ≡ true) → begun x recs ≡ true
-    here true e ih = (cc)
-    here false e ih = ih e
+active-begun x (r ∷ recs) e = grind (arith, active-begun x recs)
 
 -- nothing follows an end
 pub stops : (r : Record) (st : Stage) (o : Option ℕ) → MayFollow r st → st ≡ Over o → ⊥
@@ -88,22 +58,7 @@ begun-all (r ∷ recs) f =
 -- a commit is its record
 pub stage-commit : (P : Record → Type 0) (y : Xid) (e : ℕ) (recs : List Record) → AllByRecursion P recs → stage y recs ≡ Over (Some e) → P (Commits e y)
 stage-commit P y e [] h is = (cc)
-stage-commit P y e (Does c x seq d ∷ recs) h is = here (same_xid y x) is (stage-commit P y e recs h.1)
-  where
-    here : (t : Bool) → cond t Active (stage y recs) ≡ Over (Some e) → (stage y recs ≡ Over (Some e) → P (Commits e y)) → P (Commits e y)
-    here true is ih = (cc)
-    here false is ih = ih is
-stage-commit P y e (TakesBack i c x seq row ∷ recs) h is = stage-commit P y e recs h.1 is
-stage-commit P y e (Commits c x ∷ recs) h is = here (same_xid y x) refl is (stage-commit P y e recs h.1)
-  where
-    here : (t : Bool) → same_xid y x ≡ t → cond t (Over (Some c)) (stage y recs) ≡ Over (Some e) → (stage y recs ≡ Over (Some e) → P (Commits e y)) → P (Commits e y)
-    here true f is ih = (let same : c ≡ e = cc in rw (sym same, same_xid-true y x f) h.0)
-    here false f is ih = ih is
-stage-commit P y e (RollsBack i c x ∷ recs) h is = here (same_xid y x) is (stage-commit P y e recs h.1)
-  where
-    here : (t : Bool) → cond t (Over None) (stage y recs) ≡ Over (Some e) → (stage y recs ≡ Over (Some e) → P (Commits e y)) → P (Commits e y)
-    here true is ih = (cc)
-    here false is ih = ih is
+stage-commit P y e (r ∷ recs) h is = grind (arith, stage-commit P y e recs)
 
 module _ {recs : List Record} {durable : ℕ → ℕ} {stand : Xid → List Deed} {live : Xid → Bool} {mark : Xid → ℕ → List Change} {has_mark : Xid → ℕ → Bool} {committed : Xid → Option ℕ} {has_commit : ℕ → ℕ → Bool}
     (txns : Txns recs durable stand live mark has_mark committed has_commit) where
