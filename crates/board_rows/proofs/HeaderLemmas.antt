@@ -119,4 +119,4 @@ module _ (asked : ℕ → Option Range) (insts : ℕ) (b : Board) (sound : Sound
           sym (shown-of_xid k x (stands head)) ∙ none-shows k (of_xid x (stands head)) (ap (λ (ms : List DeedAt). deeds_in ms) (sym mods) ∙ gone)
 
   pub header-tells : IsTold
-  header-tells  = grind (arith, tests, ended-agrees, follows-older, not-yet, came-since, over, rolled-high, seen-is)
+  header-tells = grind (arith, tests, ended-agrees, follows-older, not-yet, came-since, over, rolled-high, seen-is)
