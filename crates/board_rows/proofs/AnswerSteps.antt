@@ -1,29 +1,8 @@
 -- What was answered stays right, and what is being read too.
-use Rattle.board_rows.proofs.Lists.{tests}
-use Rattle.board_rows.proofs.Lists.{clash}
-use Rattle.std.proofs.Common.{◌≡◌, ℕ, zero, suc, ◌+◌, ◌<◌, ◌≤◌, Bool, true, false, cond, ◌==◌, leb, max, List, [], ◌∷◌, ◌++◌, refl, sym, ap, ◌∙◌, subst, arith, inl, inr, ◌⊎◌}
-use Rattle.std.specs.Prelude.{Option, Some, None, IsSomeAnd}
-use Rattle.std.specs.Option.{option_and_then, option_map_or}
+use Rattle.std.proofs.Common.{◌≡◌, ℕ, zero, suc, ◌+◌, ◌<◌, ◌≤◌, Bool, true, false, max, List, [], ◌∷◌, ◌++◌, refl, ap, ◌∙◌, arith, inl, ◌⊎◌, Option, Some, None, IsSomeAnd}
 use Rattle.std.specs.List.{AllByRecursion}
-use Rattle.std.proofs.lemmas.Bool.{eq-eqb, eqb-true, lt-leb}
-use Rattle.base_types.specs.declared.names.Xid.{Xid}
-use Rattle.base_types.specs.declared.value.Value.{Value}
-use Rattle.base_types.specs.declared.value.Value.TheVariants.{Absent, Num}
-use Rattle.journal.specs.declared.entry.Entry.{Entry}
-use Rattle.journal.specs.declared.entry.Entry.TheVariants.{Rows, Changed}
-use Rattle.journal.specs.declared.deeds.Start.{Start}
-use Rattle.journal.specs.Past.{Past, Each, same_xid, start_of}
-use Rattle.journal.specs.declared.deeds.Change.{Change}
-use Rattle.journal.specs.Standing.{row_of, changes_of, standing, is_open}
-use Rattle.journal.specs.declared.deeds.Commit.{Commit}
-use Rattle.journal.specs.History.{entered, changes_up_to, value_by}
-use Rattle.journal.specs.Sees.{sees, last_of, own_changes}
-use Rattle.journal.specs.Good.{Range, listed, listed_before, RowsAreSeen, FoundIsSeen}
-use Rattle.journal.proofs.XidLemmas.{same_xid-true}
-use Rattle.board_rows.specs.Board.{Record, DeedAt, stands, of_xid, Over, stage}
-use Rattle.board_rows.specs.Rows.{on, on_row, deeds_in}
-use Rattle.board_rows.specs.Events.{Scan, put, unread, anew, read_on}
-use Rattle.board_rows.specs.Sound.{RowsAreLate, RowsStand, AreRead, IsRead, ScanIsSeen, Answers}
+use Rattle.board_rows.proofs.Words.{Xid, Value, Absent, Num, Entry, Rows, Changed, Start, Past, Each, same_xid, start_of, Change, changes_of, standing, is_open, Commit, entered, changes_up_to, value_by, sees, last_of, own_changes, Range, listed, listed_before, RowsAreSeen, FoundIsSeen, Record, DeedAt, stands, of_xid, Over, stage, on_row, deeds_in, Scan, put, unread, anew, read_on, RowsAreLate, RowsStand, AreRead, IsRead, ScanIsSeen, Answers}
+use Rattle.board_rows.proofs.Lists.{tests}
 use Rattle.board_rows.proofs.Shown.{NoneOn, none-shown, on_row-of_xid}
 use Rattle.board_rows.proofs.Table.{row-entered}
 use Rattle.board_rows.proofs.Replay.{value-below}

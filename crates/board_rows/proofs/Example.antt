@@ -1,21 +1,10 @@
 -- Runs that meet the premises. The first: a put and its commit, a scan on the other instance, a put there over it that
 -- a crash leaves, its rollback by the first instance, and a scan over an older image once the other is back. The second:
 -- a commit record and a put that a crash loses, a rollback of what was kept, and the lost put's transaction anew.
-use Rattle.std.proofs.Common.{◌≡◌, ◌≢◌, ℕ, zero, suc, ◌<◌, ◌≤◌, Bool, true, false, cond, List, [], ◌∷◌, refl, sym, arith, inl, inr}
-use Rattle.std.specs.Prelude.{Option, Some, None, pos}
+use Rattle.std.proofs.Common.{◌≡◌, ◌≢◌, ℕ, zero, suc, ◌<◌, ◌≤◌, Bool, true, false, cond, List, [], ◌∷◌, refl, sym, arith, inl, inr, Option, Some, None, pos}
 use Rattle.std.proofs.lemmas.Bool.{false≢true}
-use Rattle.base_types.specs.declared.names.Xid.{Xid}
-use Rattle.base_types.specs.declared.value.Value.TheVariants.{Absent, Num}
-use Rattle.journal.specs.declared.entry.Entry.{Entry}
-use Rattle.journal.specs.declared.entry.Entry.TheVariants.{Opened, Started, Rows, Changed, Locked, Marked, Committed, Acked, Undone, Rolled, Crashed, Ended, Up}
-use Rattle.journal.specs.declared.deeds.Deed.{Deed}
-use Rattle.journal.specs.declared.deeds.Deed.TheVariants.{Changes, Locks}
-use Rattle.journal.specs.Past.{same_xid}
-use Rattle.journal.specs.Good.{Range}
-use Rattle.board_rows.specs.Board.{Record, Does, TakesBack, Commits, RollsBack, DeedAt, Fresh, Active, Over}
+use Rattle.board_rows.proofs.Words.{Xid, Absent, Num, Entry, Opened, Started, Rows, Changed, Locked, Marked, Committed, Acked, Undone, Rolled, Crashed, Ended, Up, Deed, Changes, Locks, same_xid, Range, Record, Does, TakesBack, Commits, RollsBack, DeedAt, Fresh, Active, Over, Board, Event, Crash, Fault, after, nothing, Leads, MayTell}
 use Rattle.board_rows.specs.Events
-use Rattle.board_rows.specs.Events.{Board, Event, Crash, Fault, after, nothing, Leads}
-use Rattle.board_rows.specs.Headers.{MayTell}
 
 asked : ℕ → Option Range
 asked n = Some (record { first = 0; count = 2 })

@@ -1,22 +1,11 @@
 -- A header of a later moment than the image's tells who has committed.
-use Rattle.board_rows.proofs.Lists.{tests}
-use Rattle.board_rows.proofs.Lists.{all_append}
-use Rattle.std.proofs.Common.{◌≡◌, ℕ, ◌<◌, ◌≤◌, Bool, true, false, cond, ◌&&◌, leb, List, [], ◌∷◌, ◌++◌, refl, sym, ap, ◌∙◌, subst, arith, inl, inr, ◌⊎◌}
-use Rattle.std.specs.Prelude.{Option, Some, None}
+use Rattle.std.proofs.Common.{◌≡◌, ℕ, ◌<◌, ◌≤◌, Bool, true, false, List, [], ◌∷◌, ◌++◌, refl, sym, ap, ◌∙◌, subst, arith, inl, inr, ◌⊎◌, Option, Some, None}
 use Rattle.std.specs.List.{AllByRecursion}
-use Rattle.std.proofs.lemmas.Bool.Decides.{nat_tests}
-use Rattle.base_types.specs.declared.names.Xid.{Xid}
-use Rattle.journal.specs.Past.{same_xid}
-use Rattle.journal.specs.Good.{Range}
-use Rattle.journal.proofs.XidLemmas.{same_xid-true}
-use Rattle.board_rows.specs.Board.{Record, Does, TakesBack, Commits, RollsBack, DeedAt, scn_of, xid_of, touches, stands, of_xid, Stage, Fresh, Active, Over, stage, durable_commit}
-use Rattle.board_rows.specs.Rows.{on, shown, deeds_in, committed_at, is_up_to, seen_at}
-use Rattle.board_rows.specs.Events.{Board, IsLateHere}
-use Rattle.board_rows.specs.Sound.{Sound, Follows, MayFollow}
-use Rattle.board_rows.specs.Headers.{ended, MayTell}
+use Rattle.board_rows.proofs.Words.{Xid, same_xid, Range, Record, Commits, DeedAt, scn_of, xid_of, touches, stands, of_xid, Stage, Active, Over, stage, durable_commit, on, shown, deeds_in, committed_at, is_up_to, seen_at, Board, IsLateHere, Sound, Follows, MayFollow, ended, MayTell}
+use Rattle.board_rows.proofs.Lists.{tests, all_append}
 use Rattle.board_rows.proofs.Shown.{shown-later, shown-of_xid}
 use Rattle.board_rows.proofs.TxnSteps.{stops}
-use Rattle.board_rows.proofs.Losses.{after-stage, after-of_xid}
+use Rattle.board_rows.proofs.Losses.{after-of_xid}
 
 -- the end that a header has is that of the stage
 abbrev Agrees : Stage → Option ℕ → Type 0

@@ -1,48 +1,25 @@
 -- Every event keeps the board sound.
-use Rattle.board_rows.proofs.Lists.{tests}
-use Rattle.board_rows.proofs.Lists.{all_of, all_map, all_both, all_append, clash, suffix_here, suffix_map}
-use Rattle.std.proofs.Common.{◌≡◌, ℕ, suc, ◌+◌, ◌<◌, ◌≤◌, Bool, true, false, cond, ◌&&◌, ◌||◌, ◌==◌, max, leb, List, ◌∷◌, ◌++◌, refl, sym, ap, ◌∙◌, subst, arith, inl, inr, ◌⊎◌}
-use Rattle.std.specs.Prelude.{Option, Some, None, IsSomeAnd}
+use Rattle.std.proofs.Common.{◌≡◌, ℕ, suc, ◌+◌, ◌<◌, ◌≤◌, Bool, true, false, cond, ◌&&◌, ◌||◌, ◌==◌, max, List, ◌∷◌, ◌++◌, refl, sym, ap, ◌∙◌, subst, arith, inl, inr, ◌⊎◌, Option, Some, None, IsSomeAnd}
 use Rattle.std.specs.Option.{option_map_or}
 use Rattle.std.specs.List.{AllByRecursion}
-use Rattle.std.proofs.lemmas.Bool.{eq-eqb, eqb-true}
-use Rattle.std.proofs.lemmas.Bool.Decides.{nat_tests}
-use Rattle.base_types.specs.declared.names.Xid.{Xid}
-use Rattle.base_types.specs.declared.value.Value.{Value}
-use Rattle.journal.specs.declared.entry.Entry.{Entry}
-use Rattle.journal.specs.declared.entry.Entry.TheVariants.{Opened, Started, Rows, Marked, Committed, Acked, Undone, Rolled, Plain, Refused, Recovered, Up, Moved, Checkpointed, NotDone}
-use Rattle.journal.specs.declared.deeds.Start.{Start}
-use Rattle.journal.specs.Past.{Past, same_xid, home_of, is_up}
-use Rattle.journal.specs.declared.deeds.Deed.{Deed}
-use Rattle.journal.specs.declared.deeds.Deed.TheVariants.{Changes, Locks}
-use Rattle.journal.specs.Standing.{row_of, changes_of, standing, is_open, holds}
-use Rattle.journal.specs.declared.deeds.Commit.{Commit}
-use Rattle.journal.specs.History.{entered, marked, history}
-use Rattle.journal.specs.Sees.{sees, is_of, last_of, own_changes}
-use Rattle.journal.specs.Stood.{stood, is_commit_by, is_mark, started_up_to, came_up, acked_up_to}
-use Rattle.journal.specs.Good.{Range, CommitIsProper, FoundIsSeen}
-use Rattle.journal.proofs.XidLemmas.{same_xid-refl, same_xid-true}
-use Rattle.board_rows.specs.Board.{EachSuffix, Record, Does, TakesBack, Commits, RollsBack, DeedAt, without, thread_of, scn_of, xid_of, stands, of_xid, Stage, Fresh, Active, Over, stage, begun, durable_commit, Rising}
-use Rattle.board_rows.specs.Rows.{FreeUnder, IsFree, on, deeds_in, committed_at, commit_of, logged}
-use Rattle.board_rows.specs.Numbers.{wrap_in, has_end}
+use Rattle.std.proofs.lemmas.Bool.{eqb-true}
+use Rattle.board_rows.proofs.Words.{Xid, Entry, Marked, Committed, Undone, Rolled, Plain, Refused, Recovered, Moved, Checkpointed, NotDone, Start, Past, same_xid, home_of, is_up, Deed, Changes, Locks, row_of, changes_of, standing, is_open, holds, Commit, entered, marked, history, sees, is_of, last_of, own_changes, stood, is_commit_by, is_mark, started_up_to, came_up, acked_up_to, Range, CommitIsProper, FoundIsSeen, EachSuffix, Record, Does, TakesBack, Commits, RollsBack, DeedAt, without, thread_of, scn_of, xid_of, stands, of_xid, Fresh, Active, Over, stage, begun, Rising, FreeUnder, IsFree, on, deeds_in, committed_at, commit_of, logged, wrap_in, has_end, Board, Scan, IsLate, IsNote, MayOpen, MayStart, MayRead, MayChange, MayTakeBack, MayRoll, MaySettle, MayAnswer, MayAck, MayUp, MayJoin, put, after, entry_of, unread, anew, read_on, is_own, value_there, Sound, IsRead, RowsStand, ScanIsSeen, Answers, MayGoOn, RowsAreLate, IsMarked, RecordIsIn, Sessions, Follows}
+use Rattle.board_rows.proofs.Lists.{tests, all_of, all_map, all_both, all_append, clash, suffix_here, suffix_map}
 use Rattle.board_rows.specs.Events
-use Rattle.board_rows.specs.Events.{Board, Scan, Event, IsLate, IsNote, MayOpen, MayStart, MayRead, MayChange, MayTakeBack, MayRoll, MayEnd, MaySettle, MayAnswer, MayAck, MayUp, MayJoin, Finds, put, after, entry_of, told, unread, anew, read_on, recorded, is_own, value_there}
-use Rattle.board_rows.specs.Sound.{Sound, IsRead, RowsStand, ScanIsSeen, Answers, MayGoOn, RowsAreLate, IsMarked, RecordIsIn, Sessions, Follows}
 use Rattle.board_rows.proofs.Table.{OneMore}
 use Rattle.board_rows.proofs.Order.{pair_without, same_xid-sym}
 use Rattle.board_rows.proofs.ClockSteps.{put-here, put-all, put-rises, clocks-records, clocks-raises, clocks-learns, clocks-settles}
 use Rattle.board_rows.proofs.RowSteps.{IsNewest, newest-first, rows-changes, rows-back, rows-ends, rows-settles}
 use Rattle.board_rows.proofs.TxnSteps.{txns-changes, txns-back, txns-marks, txns-rolls, goes-new, active-new, begun-used, active-begun}
-use Rattle.board_rows.proofs.TxnSettles.{IsPlaced, all-placed, txns-settles, settled-quiet, settled-commit, apart-quiet, apart-commit}
+use Rattle.board_rows.proofs.TxnSettles.{all-placed, txns-settles, settled-quiet, settled-commit, apart-quiet, apart-commit}
 use Rattle.board_rows.proofs.Logged.{logged-quiet, logged-commit, stands-over}
 use Rattle.board_rows.proofs.NumberSteps.{numbers-changes, ended-more}
-use Rattle.board_rows.proofs.Losses.{eqb-sym}
 use Rattle.board_rows.proofs.SegmentSteps.{segments-changes, segments-back, segments-marks, segments-rolls, segments-settles, segments-ups}
 use Rattle.board_rows.proofs.Owns.{under-up, under-committed-more, under-fresh-all}
 use Rattle.board_rows.proofs.LateSteps.{late-reads, late-raises, late-changes, late-back, late-marks, late-rolls, late-settles}
 use Rattle.board_rows.proofs.Look.{changes-free, own-is, live-new, live-low, look-sees, look-late, change-sees, OfRec, stands-from}
-use Rattle.board_rows.proofs.AnswerSteps.{each-read, scan-read, answers-same, settled-same, own-other, unread-seen, scan-anew, anew-at, scan-reads, by_own}
-use Rattle.board_rows.proofs.SessionSteps.{none-stood, some-stood, row-free, push-proper, push-answers, sessions-opens, sessions-changes, starts-opens, starts-learns, starts-starts, starts-acks, starts-proper, starts-joins, starts-ups}
+use Rattle.board_rows.proofs.AnswerSteps.{each-read, scan-read, answers-same, settled-same, own-other, unread-seen, anew-at, scan-reads, by_own}
+use Rattle.board_rows.proofs.SessionSteps.{none-stood, some-stood, row-free, push-proper, push-answers, sessions-changes, starts-starts, starts-acks, starts-proper, starts-joins, starts-ups}
 
 module _ (asked : ℕ → Option Range) (insts : ℕ) (b : Board) (sound : Sound asked insts b) where
   abbrev told_at : Xid → Option ℕ

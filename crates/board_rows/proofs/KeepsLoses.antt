@@ -1,25 +1,12 @@
 -- The loss of an instance keeps the board sound.
-use Rattle.board_rows.proofs.Lists.{all_map, clash, all_filter}
-use Rattle.std.proofs.Common.{◌≡◌, ℕ, ◌<◌, ◌≤◌, Bool, true, false, cond, ◌==◌, List, [], ◌∷◌, refl, sym, ap, ◌∙◌, subst, arith}
-use Rattle.std.specs.Prelude.{Option, Some, None}
+use Rattle.std.proofs.Common.{◌≡◌, ℕ, ◌≤◌, Bool, true, false, cond, ◌==◌, List, [], ◌∷◌, refl, sym, ap, ◌∙◌, subst, arith, Option, Some, None}
 use Rattle.std.specs.List.{AllByRecursion}
-use Rattle.base_types.specs.declared.names.Xid.{Xid}
-use Rattle.journal.specs.Past.{Past, same_xid, home_of}
-use Rattle.journal.specs.Standing.{row_of, changes_of, standing, is_open}
-use Rattle.journal.specs.declared.deeds.Commit.{Commit}
-use Rattle.journal.specs.History.{history}
-use Rattle.journal.specs.Sees.{is_home, last_of, own_changes}
-use Rattle.journal.specs.Stood.{started_up_to}
-use Rattle.journal.specs.Good.{Range}
-use Rattle.journal.proofs.XidLemmas.{same_xid-refl, same_xid-true}
-use Rattle.board_rows.specs.Board.{EachSuffix, Record, Does, TakesBack, Commits, RollsBack, DeedAt, thread_of, scn_of, xid_of, touches, stands, of_xid, Stage, Fresh, Active, Over, stage, begun}
-use Rattle.board_rows.specs.Rows.{FreeUnder, deeds_in, committed_at, is_up_to, seen_at, IsMade, logged}
+use Rattle.board_rows.proofs.Words.{Xid, Past, same_xid, home_of, row_of, changes_of, standing, is_open, Commit, history, is_home, last_of, own_changes, started_up_to, Range, same_xid-refl, same_xid-true, EachSuffix, Record, Does, TakesBack, Commits, RollsBack, DeedAt, thread_of, scn_of, xid_of, touches, stands, of_xid, Stage, Fresh, Active, Over, stage, begun, FreeUnder, deeds_in, committed_at, seen_at, IsMade, logged, Board, Loss, Crash, Fault, entry_of_loss, IsLate, MayLose, after, anew, is_kept, kept_of, Sound, Clocks, Sessions, RowsStand, RowsAreLate, ScanIsSeen, EndsBy, CanCommit, RecordIsIn}
+use Rattle.board_rows.proofs.Lists.{all_map, clash, all_filter}
 use Rattle.board_rows.specs.Events
-use Rattle.board_rows.specs.Events.{Board, Loss, Crash, Fault, entry_of_loss, IsLate, MayLose, after, anew, is_kept, kept_of}
-use Rattle.board_rows.specs.Sound.{Sound, Clocks, Sessions, RowsStand, RowsAreLate, ScanIsSeen, EndsBy, CanCommit, RecordIsIn}
-use Rattle.board_rows.proofs.AnswerSteps.{own-other as own-same, scan-anew, anew-at, by_own}
+use Rattle.board_rows.proofs.AnswerSteps.{anew-at, by_own}
 use Rattle.board_rows.proofs.SessionSteps.{push-proper, push-answers, starts-loses}
-use Rattle.board_rows.proofs.Losses.{KeepsUnder, keeps-under, eqb-sym, Kept, lost-is, stage-kept, of_xid-kept, own-other, begun-kept, rising-kept}
+use Rattle.board_rows.proofs.Losses.{KeepsUnder, keeps-under, Kept, stage-kept, of_xid-kept, own-other, begun-kept, rising-kept}
 use Rattle.board_rows.proofs.LossTxns.{committed-is, commit-kept, durable-kept, live-kept, over-before, txns-loses}
 use Rattle.board_rows.proofs.Logged.{IsTold, logged-loses}
 use Rattle.board_rows.proofs.NumberSteps.{numbers-loses}

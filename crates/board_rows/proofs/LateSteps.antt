@@ -1,18 +1,9 @@
 -- What was read stays: no later commit changes it.
-use Rattle.board_rows.proofs.Lists.{all_map, all_both, clash}
-use Rattle.std.proofs.Common.{◌≡◌, ℕ, ◌<◌, ◌≤◌, Bool, true, false, cond, ◌==◌, max, List, [], ◌∷◌, refl, sym, arith, inl, inr, ◌⊎◌}
-use Rattle.std.specs.Prelude.{Option, Some, None}
+use Rattle.std.proofs.Common.{◌≡◌, ℕ, ◌<◌, ◌≤◌, Bool, true, false, cond, ◌==◌, max, List, [], ◌∷◌, refl, sym, arith, inl, inr, ◌⊎◌, Option, Some, None}
 use Rattle.std.specs.List.{AllByRecursion}
 use Rattle.std.proofs.lemmas.Bool.{eq-eqb, eqb-true}
-use Rattle.base_types.specs.declared.names.Xid.{Xid}
-use Rattle.journal.specs.Past.{same_xid}
-use Rattle.journal.specs.declared.deeds.Deed.{Deed}
-use Rattle.journal.specs.Standing.{row_of}
-use Rattle.journal.proofs.XidLemmas.{same_xid-refl, same_xid-true}
-use Rattle.board_rows.specs.Board.{Record, Does, TakesBack, Commits, RollsBack, DeedAt, stands, Stage, Fresh, Active, Over, stage}
-use Rattle.board_rows.specs.Rows.{on}
-use Rattle.board_rows.specs.Events.{put, IsLate}
-use Rattle.board_rows.specs.Sound.{RowsAreLate}
+use Rattle.board_rows.proofs.Words.{Xid, same_xid, Deed, row_of, same_xid-refl, same_xid-true, Record, Does, TakesBack, Commits, RollsBack, DeedAt, stands, Stage, Fresh, Active, Over, stage, on, put, IsLate, RowsAreLate}
+use Rattle.board_rows.proofs.Lists.{all_map, all_both, clash}
 use Rattle.board_rows.proofs.Order.{all_without}
 
 -- what stands is of a transaction with a record

@@ -1,11 +1,9 @@
 -- Lists, each of whose elements or pairs of elements has a property, and what tests tell.
-use Rattle.std.proofs.Common.{◌≡◌, ◌≢◌, Bool, true, false, cond, List, [], ◌∷◌, ◌++◌, refl, sym, ◌∙◌, filter, inl, inr, ◌⊎◌, arith}
+use Rattle.std.proofs.Common.{◌≡◌, ◌≢◌, Bool, true, false, List, [], ◌∷◌, ◌++◌, refl, sym, ◌∙◌, filter, inl, inr, ◌⊎◌, arith}
 use Rattle.std.specs.List.{AllByRecursion}
 use Rattle.std.proofs.lemmas.Bool.{false≢true}
 use Rattle.std.proofs.lemmas.Bool.Decides.{nat_tests}
-use Rattle.journal.proofs.XidLemmas.{same_xid-refl, same_xid-true}
-use Rattle.board_rows.specs.Words.{Xid, same_xid}
-use Rattle.board_rows.specs.Board.{Record, EachPair, EachSuffix}
+use Rattle.board_rows.proofs.Words.{same_xid-refl, same_xid-true, Xid, same_xid, Record, EachPair, EachSuffix}
 
 -- what can't be true and false
 pub clash : {A : Type 0} (b : Bool) → b ≡ true → b ≡ false → A

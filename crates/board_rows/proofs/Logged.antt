@@ -1,21 +1,9 @@
 -- The history of the journal is that of the logs.
-use Rattle.board_rows.proofs.Lists.{tests}
-use Rattle.board_rows.proofs.Lists.{all_map, all_append}
-use Rattle.std.proofs.Common.{◌≡◌, ◌≢◌, ℕ, ◌<◌, ◌≤◌, Bool, true, false, not, cond, ◌==◌, leb, List, [], ◌∷◌, ◌++◌, refl, sym, ap, ◌∙◌, arith, inl, inr}
-use Rattle.std.specs.Prelude.{Some}
+use Rattle.std.proofs.Common.{◌≡◌, ◌≢◌, ℕ, ◌<◌, ◌≤◌, Bool, true, false, cond, leb, List, [], ◌∷◌, ◌++◌, refl, sym, ap, arith, inl, inr, Some}
 use Rattle.std.specs.List.{AllByRecursion, filter}
-use Rattle.std.proofs.lemmas.Bool.{eqb-true}
 use Rattle.std.proofs.lemmas.Bool.Decides.{nat_tests}
-use Rattle.base_types.specs.declared.names.Xid.{Xid}
-use Rattle.journal.specs.Past.{same_xid}
-use Rattle.journal.specs.Standing.{changes_of}
-use Rattle.journal.specs.declared.deeds.Commit.{Commit}
-use Rattle.journal.specs.History.{is_before, entered}
-use Rattle.journal.proofs.XidLemmas.{same_xid-refl, same_xid-true}
-use Rattle.board_rows.specs.Board.{Record, Does, TakesBack, Commits, RollsBack, DeedAt, thread_of, scn_of, xid_of, stands, of_xid, Over, stage, Rising}
-use Rattle.board_rows.specs.Rows.{deeds_in, commit_of, logged}
-use Rattle.board_rows.specs.Events.{put}
-use Rattle.board_rows.specs.Sound.{Follows}
+use Rattle.board_rows.proofs.Words.{Xid, Commit, entered, same_xid-refl, Record, Does, TakesBack, Commits, RollsBack, thread_of, scn_of, stands, of_xid, Over, stage, Rising, commit_of, logged, put, Follows}
+use Rattle.board_rows.proofs.Lists.{tests, all_map, all_append}
 use Rattle.board_rows.proofs.ClockSteps.{put-here}
 use Rattle.board_rows.proofs.TxnSteps.{stops}
 use Rattle.board_rows.proofs.TxnSettles.{IsPlaced}

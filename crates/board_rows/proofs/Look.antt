@@ -1,27 +1,10 @@
 -- What a look at a row shows is what the session sees, and it is settled.
-use Rattle.board_rows.proofs.Lists.{tests}
-use Rattle.board_rows.proofs.Lists.{all_map, all_both, all_append, clash, suffix_here}
-use Rattle.std.proofs.Common.{◌≡◌, ℕ, suc, ◌<◌, ◌≤◌, Bool, true, false, cond, ◌||◌, leb, List, [], ◌∷◌, ◌++◌, refl, sym, ap, ◌∙◌, subst, arith, inl, inr, ◌⊎◌}
-use Rattle.std.specs.Prelude.{Option, Some, None, IsSomeAnd}
-use Rattle.std.specs.Option.{option_and_then, option_map_or}
+use Rattle.std.proofs.Common.{◌≡◌, ℕ, suc, ◌<◌, ◌≤◌, Bool, true, false, ◌||◌, List, [], ◌∷◌, ◌++◌, refl, sym, ap, ◌∙◌, subst, arith, inl, inr, ◌⊎◌, Option, Some, None, IsSomeAnd}
+use Rattle.std.specs.Option.{option_map_or}
 use Rattle.std.specs.List.{AllByRecursion}
-use Rattle.std.proofs.lemmas.Bool.Decides.{nat_tests}
 use Rattle.std.proofs.lemmas.List.Elements.{filter-append}
-use Rattle.base_types.specs.declared.names.Xid.{Xid}
-use Rattle.journal.specs.Past.{Past, same_xid}
-use Rattle.journal.specs.declared.deeds.Change.{Change}
-use Rattle.journal.specs.declared.deeds.Deed.{Deed}
-use Rattle.journal.specs.Standing.{row_of, changes_of, standing, is_open}
-use Rattle.journal.specs.History.{history, changes_up_to, value_by}
-use Rattle.journal.specs.Sees.{sees, own, last_of}
-use Rattle.journal.specs.Stood.{started_up_to}
-use Rattle.journal.specs.Good.{Range}
-use Rattle.journal.proofs.XidLemmas.{same_xid-refl, same_xid-true}
-use Rattle.board_rows.specs.Board.{Record, Does, TakesBack, Commits, RollsBack, DeedAt, thread_of, scn_of, xid_of, touches, stands, Stage, Fresh, Active, Over, stage, durable_commit}
-use Rattle.board_rows.specs.Numbers.{wrap_in}
-use Rattle.board_rows.specs.Rows.{FreeUnder, IsFree, on, shown, on_row, deeds_in, committed_at, is_up_to, seen_at, Ordered}
-use Rattle.board_rows.specs.Events.{Board, IsLate, IsLateHere, is_own, MayLook, MayChange, value_there}
-use Rattle.board_rows.specs.Sound.{Sound, EndsBy, IsBelow, CanCommit, RecordIsIn}
+use Rattle.board_rows.proofs.Words.{Xid, Past, same_xid, Change, Deed, row_of, changes_of, standing, is_open, history, changes_up_to, value_by, sees, own, last_of, started_up_to, Range, same_xid-refl, same_xid-true, Record, Does, TakesBack, Commits, RollsBack, DeedAt, thread_of, scn_of, xid_of, touches, stands, Stage, Fresh, Active, Over, stage, durable_commit, wrap_in, FreeUnder, IsFree, on, shown, on_row, deeds_in, committed_at, is_up_to, seen_at, Ordered, Board, IsLate, IsLateHere, is_own, MayLook, MayChange, value_there, Sound, EndsBy, IsBelow, CanCommit, RecordIsIn}
+use Rattle.board_rows.proofs.Lists.{tests, all_map, all_both, all_append, suffix_here}
 use Rattle.board_rows.proofs.Shown.{shown-alike, shown-later, shown-none, on_row-shown}
 use Rattle.board_rows.proofs.Order.{all-seen, all_without}
 use Rattle.board_rows.proofs.Replay.{value-on_row, value-same, own-first}

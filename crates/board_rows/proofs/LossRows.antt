@@ -1,21 +1,10 @@
 -- The clauses on rows are kept by a loss: what vanishes of a row is its newest.
-use Rattle.board_rows.proofs.Lists.{tests}
-use Rattle.board_rows.proofs.Lists.{pair_filter, all_map, clash, all_filter}
-use Rattle.std.proofs.Common.{◌≡◌, ℕ, Bool, true, false, cond, ◌&&◌, ◌==◌, List, [], ◌∷◌, refl, sym, ap, ◌∙◌, subst, inl, arith}
-use Rattle.std.specs.Prelude.{Option}
+use Rattle.std.proofs.Common.{◌≡◌, ℕ, Bool, true, false, cond, ◌==◌, List, [], ◌∷◌, refl, sym, ap, ◌∙◌, subst, inl, arith, Option}
 use Rattle.std.specs.List.{AllByRecursion, filter}
-use Rattle.std.proofs.lemmas.Bool.{eq-eqb, eqb-true}
-use Rattle.base_types.specs.declared.names.Xid.{Xid}
-use Rattle.journal.specs.declared.deeds.Change.{Change}
-use Rattle.journal.specs.declared.deeds.Deed.{Deed}
-use Rattle.journal.specs.declared.deeds.Deed.TheVariants.{Changes, Locks}
-use Rattle.journal.specs.Standing.{row_of, changes_of}
-use Rattle.journal.specs.History.{value_by}
-use Rattle.journal.specs.Good.{Replays}
-use Rattle.board_rows.specs.Board.{Record, Does, TakesBack, Commits, RollsBack, DeedAt, xid_of, touches, is_that, without, stands_after, stands, EachSuffix}
-use Rattle.board_rows.specs.Rows.{FreeUnder, on, shown, on_row, deeds_in, IsOver, Ordered}
-use Rattle.board_rows.specs.Events.{is_kept, AreNear}
-use Rattle.board_rows.proofs.Shown.{that-is, shown-later}
+use Rattle.std.proofs.lemmas.Bool.{eq-eqb}
+use Rattle.board_rows.proofs.Words.{Xid, Change, row_of, changes_of, value_by, Replays, Record, DeedAt, xid_of, touches, without, stands_after, stands, EachSuffix, FreeUnder, on, shown, on_row, deeds_in, Ordered, is_kept, AreNear}
+use Rattle.board_rows.proofs.Lists.{tests, pair_filter, all_map, clash}
+use Rattle.board_rows.proofs.Shown.{shown-later}
 use Rattle.board_rows.proofs.Order.{pair_from}
 use Rattle.board_rows.proofs.Replay.{value-on_row}
 use Rattle.board_rows.proofs.Losses.{KeepsUnder, Kept}

@@ -1,21 +1,11 @@
 -- The clauses on transactions are kept by a loss.
-use Rattle.board_rows.proofs.Lists.{tests}
-use Rattle.board_rows.proofs.Lists.{all_map, clash, all_filter}
-use Rattle.std.proofs.Common.{◌≡◌, ℕ, ◌≤◌, Bool, true, false, cond, ◌==◌, leb, List, [], refl, sym, ap, ◌∙◌, arith, inl, inr, ◌⊎◌}
-use Rattle.std.specs.Prelude.{Option, Some, None}
+use Rattle.std.proofs.Common.{◌≡◌, ℕ, ◌≤◌, Bool, true, false, cond, ◌==◌, leb, List, [], refl, sym, ap, ◌∙◌, arith, inl, inr, ◌⊎◌, Option, Some, None}
 use Rattle.std.specs.List.{filter}
-use Rattle.std.proofs.lemmas.Bool.{eqb-true}
 use Rattle.std.proofs.lemmas.Bool.Decides.{nat_tests}
-use Rattle.base_types.specs.declared.names.Xid.{Xid}
-use Rattle.journal.specs.Past.{same_xid}
-use Rattle.journal.specs.declared.deeds.Change.{Change}
-use Rattle.journal.specs.declared.deeds.Deed.{Deed}
-use Rattle.journal.proofs.XidLemmas.{same_xid-true}
-use Rattle.board_rows.specs.Board.{Record, Does, TakesBack, Commits, RollsBack, DeedAt, xid_of, stands, of_xid, Stage, Fresh, Active, Over, stage, begun, durable_commit}
-use Rattle.board_rows.specs.Rows.{deeds_in}
-use Rattle.board_rows.specs.Sound.{Txns, IsMarked, EndsBy, IsBelow, CanCommit, RecordIsIn}
+use Rattle.board_rows.proofs.Words.{Xid, same_xid, Change, Deed, same_xid-true, Record, Does, TakesBack, Commits, RollsBack, DeedAt, xid_of, stands, of_xid, Stage, Fresh, Active, Over, stage, durable_commit, deeds_in, Txns, IsMarked, EndsBy, IsBelow, CanCommit, RecordIsIn}
+use Rattle.board_rows.proofs.Lists.{tests, all_map, clash, all_filter}
 use Rattle.board_rows.proofs.TxnSteps.{begun-all, begun-used}
-use Rattle.board_rows.proofs.Losses.{KeepsUnder, fresh-none, unbegun-fresh, Kept, AllKept, kept-other, kept-low, stage-kept, of_xid-kept, own-other, begun-kept, over-kept, ended-whole, commit-whole, follows-kept}
+use Rattle.board_rows.proofs.Losses.{KeepsUnder, fresh-none, unbegun-fresh, Kept, AllKept, kept-other, stage-kept, of_xid-kept, own-other, begun-kept, over-kept, ended-whole, commit-whole, follows-kept}
 
 module _ {recs : List Record} {durable : ℕ → ℕ} {stand : Xid → List Deed} {live : Xid → Bool} {mark : Xid → ℕ → List Change} {has_mark : Xid → ℕ → Bool} {committed : Xid → Option ℕ} {has_commit : ℕ → ℕ → Bool}
     (txns : Txns recs durable stand live mark has_mark committed has_commit) (i kept : ℕ) (lasts : durable i ≤ kept) (newest : KeepsUnder i kept recs) where

@@ -1,18 +1,10 @@
 -- What a loss leaves of the board.
-use Rattle.board_rows.proofs.Lists.{tests}
-use Rattle.board_rows.proofs.Lists.{pair_both, pair_filter, all_map, all_of, clash, all_filter}
-use Rattle.std.proofs.Common.{◌≡◌, ◌≢◌, ℕ, ◌<◌, ◌≤◌, Bool, true, false, cond, ◌==◌, leb, List, [], ◌∷◌, refl, sym, ap, ◌∙◌, arith, inr}
-use Rattle.std.specs.Prelude.{Option, Some, None}
+use Rattle.std.proofs.Common.{◌≡◌, ◌≢◌, ℕ, ◌<◌, ◌≤◌, Bool, true, false, cond, ◌==◌, leb, List, [], ◌∷◌, refl, sym, ◌∙◌, arith, inr, Option, Some}
 use Rattle.std.specs.List.{AllByRecursion, filter}
 use Rattle.std.proofs.lemmas.Bool.{eq-eqb, eqb-true}
 use Rattle.std.proofs.lemmas.Bool.Decides.{nat_tests}
-use Rattle.base_types.specs.declared.names.Xid.{Xid}
-use Rattle.journal.specs.Past.{same_xid}
-use Rattle.journal.proofs.XidLemmas.{same_xid-refl, same_xid-true}
-use Rattle.board_rows.specs.Board.{EachPair, Record, Does, TakesBack, Commits, RollsBack, DeedAt, thread_of, scn_of, xid_of, is_that, without, stands_after, stands, of_xid, Stage, Fresh, Active, Over, stage, begun, Rising}
-use Rattle.board_rows.specs.Events.{is_kept, AreNear, LosesNewest}
-use Rattle.board_rows.specs.Sound.{MayFollow, Follows}
-use Rattle.board_rows.proofs.Shown.{that-is}
+use Rattle.board_rows.proofs.Words.{Xid, same_xid, same_xid-refl, same_xid-true, EachPair, Record, Commits, DeedAt, thread_of, scn_of, xid_of, without, stands_after, stands, of_xid, Fresh, Over, stage, begun, Rising, is_kept, AreNear, LosesNewest, MayFollow, Follows}
+use Rattle.board_rows.proofs.Lists.{tests, pair_both, pair_filter, all_map, all_of, clash}
 use Rattle.board_rows.proofs.RowSteps.{of_xid-without}
 use Rattle.board_rows.proofs.TxnSteps.{stops}
 use Rattle.board_rows.proofs.LateSteps.{all-used}

@@ -1,15 +1,10 @@
 -- The numbers of deeds and the wraps of slots are kept.
-use Rattle.board_rows.proofs.Lists.{all_map, all_of, clash}
 use Rattle.std.proofs.Common.{◌≡◌, ℕ, suc, ◌<◌, ◌≤◌, Bool, true, false, cond, ◌&&◌, ◌||◌, ◌==◌, leb, max, List, [], ◌∷◌, ◌++◌, length, refl, sym, ap, ◌∙◌, subst, arith, inl, inr, ◌⊎◌}
 use Rattle.std.specs.List.{AllByRecursion, filter}
 use Rattle.std.proofs.lemmas.Bool.{eq-eqb, eqb-true, or_right}
 use Rattle.std.proofs.lemmas.Bool.Decides.{nat_tests}
-use Rattle.base_types.specs.declared.names.Xid.{Xid}
-use Rattle.journal.specs.Past.{same_xid}
-use Rattle.journal.specs.declared.deeds.Deed.{Deed}
-use Rattle.journal.proofs.XidLemmas.{both_true, same_xid-true}
-use Rattle.board_rows.specs.Board.{Record, Does, TakesBack, Commits, RollsBack, thread_of, scn_of, begun, Rising, EachOver}
-use Rattle.board_rows.specs.Numbers.{recorded_in, IsNumbered, IsWithin, wrap_in, xid_at, Numbers}
+use Rattle.board_rows.proofs.Words.{Xid, same_xid, Deed, both_true, Record, Does, thread_of, scn_of, begun, Rising, EachOver, recorded_in, IsNumbered, IsWithin, wrap_in, xid_at, Numbers}
+use Rattle.board_rows.proofs.Lists.{all_map, all_of, clash}
 use Rattle.board_rows.proofs.Losses.{older-kept, Kept, kept-other, own-other, begun-kept}
 
 -- a transaction that has begun is within the wraps of its slot

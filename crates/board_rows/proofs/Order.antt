@@ -1,18 +1,10 @@
 -- The order of what stands on a row.
-use Rattle.board_rows.proofs.Lists.{tests}
-use Rattle.board_rows.proofs.Lists.{tests, pair_map, clash, all_map}
-use Rattle.std.proofs.Common.{◌≡◌, ℕ, ◌<◌, ◌≤◌, Bool, true, false, cond, filter, ◌||◌, List, [], ◌∷◌, refl, sym, ap, ◌∙◌, arith, inl, inr, ◌⊎◌}
-use Rattle.std.specs.Prelude.{Option, Some, None, IsSomeAnd}
+use Rattle.std.proofs.Common.{◌≡◌, ℕ, ◌<◌, ◌≤◌, Bool, true, false, cond, filter, ◌||◌, List, [], ◌∷◌, refl, sym, ap, ◌∙◌, arith, inl, inr, ◌⊎◌, Option, Some, None, IsSomeAnd}
 use Rattle.std.specs.List.{AllByRecursion}
 use Rattle.std.proofs.lemmas.Bool.{eqb-true, eq-eqb}
 use Rattle.std.proofs.lemmas.Bool.Decides.{nat_tests}
-use Rattle.base_types.specs.declared.names.Xid.{Xid}
-use Rattle.journal.specs.Past.{same_xid}
-use Rattle.journal.specs.Standing.{row_of, changes_of}
-use Rattle.journal.specs.declared.deeds.Commit.{Commit}
-use Rattle.journal.proofs.XidLemmas.{same_xid-refl, same_xid-true}
-use Rattle.board_rows.specs.Board.{DeedAt, without, is_that, EachPair}
-use Rattle.board_rows.specs.Rows.{IsFree, on, shown, on_row, deeds_in, is_up_to, seen_at, IsOver, Ordered, IsMade}
+use Rattle.board_rows.proofs.Words.{Xid, same_xid, row_of, changes_of, Commit, same_xid-refl, same_xid-true, DeedAt, without, EachPair, IsFree, on, shown, on_row, deeds_in, is_up_to, seen_at, IsOver, Ordered, IsMade}
+use Rattle.board_rows.proofs.Lists.{tests, pair_map, clash, all_map}
 use Rattle.board_rows.proofs.Shown.{NoneOn, Ahead, none-shown, shown-alike, on_row-all, on_row-of_xid}
 use Rattle.board_rows.proofs.Table.{OneMore, IsClear}
 

@@ -1,18 +1,12 @@
 -- What stands under a deed of an open transaction is free; so the newest deed on a row decides.
-use Rattle.board_rows.proofs.Lists.{pair_map, all_of, all_map, clash}
-use Rattle.std.proofs.Common.{◌≡◌, ℕ, ◌<◌, ◌≤◌, Bool, true, false, cond, List, [], ◌∷◌, refl, sym, arith, inl, inr}
-use Rattle.std.specs.Prelude.{Option, Some, None, IsSomeAnd}
-use Rattle.std.specs.List.{AllByRecursion, filter}
-use Rattle.std.proofs.lemmas.Bool.{eq-eqb, eqb-true}
-use Rattle.base_types.specs.declared.names.Xid.{Xid}
-use Rattle.journal.specs.Past.{same_xid}
-use Rattle.journal.specs.Standing.{row_of}
-use Rattle.journal.proofs.XidLemmas.{same_xid-refl, same_xid-true}
-use Rattle.board_rows.specs.Board.{DeedAt, Record, Does, TakesBack, Commits, RollsBack, without, is_that, stands, Stage, Fresh, Active, Over, stage, EachSuffix}
-use Rattle.board_rows.specs.Rows.{on, IsOver, Ordered, IsFree, NewestIsFree, FreeUnder}
+use Rattle.std.proofs.Common.{◌≡◌, ℕ, ◌<◌, ◌≤◌, Bool, true, false, cond, List, [], ◌∷◌, refl, sym, arith, inl, inr, Option, Some, None, IsSomeAnd}
+use Rattle.std.specs.List.{AllByRecursion}
+use Rattle.std.proofs.lemmas.Bool.{eqb-true}
+use Rattle.board_rows.proofs.Words.{Xid, same_xid, row_of, same_xid-refl, same_xid-true, DeedAt, Record, Does, TakesBack, Commits, RollsBack, stands, Stage, Fresh, Active, Over, stage, EachSuffix, on, IsOver, Ordered, IsFree, NewestIsFree, FreeUnder}
+use Rattle.board_rows.proofs.Lists.{pair_map, all_of, all_map}
 use Rattle.board_rows.proofs.Table.{OneMore}
 use Rattle.board_rows.proofs.LateSteps.{all-used}
-use Rattle.board_rows.proofs.Order.{all_without, on-both, no-commit}
+use Rattle.board_rows.proofs.Order.{on-both, no-commit}
 
 -- a deed is below its commit
 abbrev pub IsUnder : (Xid → Option ℕ) → DeedAt → Type 0

@@ -1,24 +1,10 @@
 -- Replaying what stands, and the history.
-use Rattle.board_rows.proofs.Lists.{tests}
-use Rattle.board_rows.proofs.Lists.{clash, all_map}
-use Rattle.std.proofs.Common.{◌≡◌, ℕ, ◌<◌, ◌≤◌, Bool, true, false, cond, ◌==◌, ◌||◌, max, List, [], ◌∷◌, ◌++◌, refl, sym, ap, ◌∙◌, arith, leb, inl, inr, ◌⊎◌}
-use Rattle.std.specs.Prelude.{Option, Some, None, IsSomeAnd, ◌&&◌}
+use Rattle.std.proofs.Common.{◌≡◌, ℕ, ◌<◌, ◌≤◌, Bool, true, false, cond, ◌||◌, max, List, [], ◌∷◌, ◌++◌, refl, sym, ap, ◌∙◌, arith, inl, inr, ◌⊎◌, Option, Some, None, IsSomeAnd, ◌&&◌}
 use Rattle.std.specs.List.{AllByRecursion}
 use Rattle.std.proofs.lemmas.Bool.{eq-eqb}
-use Rattle.std.proofs.lemmas.Bool.Decides.{nat_tests}
 use Rattle.std.proofs.lemmas.List.Elements.{filter-append}
-use Rattle.base_types.specs.declared.names.Xid.{Xid}
-use Rattle.journal.specs.Past.{same_xid}
-use Rattle.journal.specs.declared.deeds.Change.{Change}
-use Rattle.journal.specs.declared.deeds.Deed.{Deed}
-use Rattle.journal.specs.declared.deeds.Deed.TheVariants.{Changes, Locks}
-use Rattle.journal.specs.Standing.{row_of, changes_of}
-use Rattle.journal.specs.declared.deeds.Commit.{Commit}
-use Rattle.journal.specs.History.{is_before, entered, value_by, changes_up_to}
-use Rattle.journal.specs.Good.{changes_in, Replays}
-use Rattle.journal.proofs.XidLemmas.{same_xid-true}
-use Rattle.board_rows.specs.Board.{DeedAt, of_xid}
-use Rattle.board_rows.specs.Rows.{IsFree, on, shown, on_row, deeds_in, seen_at, IsOver, Ordered}
+use Rattle.board_rows.proofs.Words.{Xid, same_xid, Change, Deed, row_of, changes_of, Commit, entered, value_by, changes_up_to, changes_in, Replays, same_xid-true, DeedAt, of_xid, IsFree, on, shown, on_row, deeds_in, seen_at, IsOver, Ordered}
+use Rattle.board_rows.proofs.Lists.{tests, clash, all_map}
 use Rattle.board_rows.proofs.Shown.{NoneOn, shown-or, shown-hidden, changes_of-append, on_row-of_xid}
 use Rattle.board_rows.proofs.Table.{IsClear}
 use Rattle.board_rows.proofs.Order.{none-under, Ordered-ahead, all-seen}

@@ -1,26 +1,11 @@
 -- The clauses on rows are kept by a change, by a step back, by an end and by a commit that becomes durable.
-use Rattle.board_rows.proofs.Lists.{tests}
-use Rattle.board_rows.proofs.Lists.{clash, all_map, suffix_here, suffix_map}
-use Rattle.std.proofs.Common.{◌≡◌, ℕ, ◌<◌, Bool, true, false, cond, ◌==◌, max, List, [], ◌∷◌, refl, sym, ap, ◌∙◌, arith, inl, inr, ◌⊎◌}
-use Rattle.std.specs.Prelude.{Option, Some, None}
+use Rattle.std.proofs.Common.{◌≡◌, ℕ, ◌<◌, Bool, true, false, cond, ◌==◌, max, List, [], ◌∷◌, refl, sym, ap, ◌∙◌, arith, inr, ◌⊎◌, Option, Some, None}
 use Rattle.std.specs.List.{AllByRecursion}
-use Rattle.std.proofs.lemmas.Bool.{eq-eqb}
-use Rattle.base_types.specs.declared.names.Xid.{Xid}
-use Rattle.journal.specs.Past.{same_xid}
-use Rattle.journal.specs.declared.deeds.Deed.{Deed}
-use Rattle.journal.specs.declared.deeds.Deed.TheVariants.{Changes, Locks}
-use Rattle.journal.specs.Standing.{row_of, changes_of}
-use Rattle.journal.specs.declared.deeds.Commit.{Commit}
-use Rattle.journal.specs.History.{is_before, entered}
-use Rattle.journal.specs.Good.{changes_in, Replays}
-use Rattle.journal.proofs.XidLemmas.{same_xid-refl, same_xid-true}
-use Rattle.board_rows.specs.Board.{Record, Does, TakesBack, DeedAt, without, is_that, of_xid, stands}
-use Rattle.board_rows.specs.Rows.{IsFree, on, shown, on_row, deeds_in, seen_at, IsOver, Ordered, IsMade}
-use Rattle.board_rows.specs.Events.{Finds}
-use Rattle.board_rows.specs.Sound.{RowsStand}
-use Rattle.board_rows.proofs.Shown.{shown-hidden, shown-without, that-is, on_row-all, on_row-of_xid}
+use Rattle.board_rows.proofs.Words.{Xid, same_xid, Deed, Changes, Locks, row_of, changes_of, Commit, is_before, entered, changes_in, Replays, same_xid-refl, same_xid-true, Record, Does, TakesBack, DeedAt, without, is_that, of_xid, stands, IsFree, shown, on_row, deeds_in, seen_at, IsOver, Ordered, IsMade, Finds, RowsStand}
+use Rattle.board_rows.proofs.Lists.{tests, all_map, suffix_here, suffix_map}
+use Rattle.board_rows.proofs.Shown.{shown-hidden, shown-without, on_row-all, on_row-of_xid}
 use Rattle.board_rows.proofs.Table.{IsClear, OneMore, TableStands-committed}
-use Rattle.board_rows.proofs.Order.{Ordered-changes, Ordered-committed, pair_without, Ordered-ahead, clear-of, no-commit, same_xid-sym}
+use Rattle.board_rows.proofs.Order.{Ordered-changes, Ordered-committed, pair_without, Ordered-ahead, clear-of}
 use Rattle.board_rows.proofs.Replay.{ReplaysOn, Replays-entered, Replays-head, Replays-tail, replays-on, bound, changes_up_to-all}
 
 -- one more change of a transaction: another has as many

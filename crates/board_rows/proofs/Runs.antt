@@ -1,14 +1,8 @@
 -- Every run of events keeps the board sound, so its journal is good.
-use Rattle.std.proofs.Common.{◌≡◌, ℕ, List, [], ◌∷◌, ◌++◌, refl, sym, subst, arith}
-use Rattle.std.specs.Prelude.{Option}
+use Rattle.std.proofs.Common.{◌≡◌, ℕ, List, [], ◌∷◌, ◌++◌, refl, sym, subst, arith, Option}
 use Rattle.std.proofs.lemmas.Bool.{false≢true}
-use Rattle.journal.specs.History.{history}
-use Rattle.journal.specs.Good.{Range, GoodRows, GoodJournal}
-use Rattle.journal.specs.Sees.{sees}
+use Rattle.board_rows.proofs.Words.{history, Range, GoodRows, GoodJournal, sees, Board, Event, May, after, nothing, Leads, logged, Sound}
 use Rattle.board_rows.specs.Events
-use Rattle.board_rows.specs.Events.{Board, Event, May, after, nothing, Leads}
-use Rattle.board_rows.specs.Rows.{logged}
-use Rattle.board_rows.specs.Sound.{Sound}
 use Rattle.board_rows.proofs.AnswerSteps.{unread-seen}
 use Rattle.board_rows.proofs.Keeps.{keeps-opens, keeps-starts, keeps-learns, keeps-raises, keeps-changes, keeps-takes_back, keeps-marks, keeps-rolls, keeps-settles, keeps-reads, keeps-answers, keeps-acks, keeps-notes, keeps-joins, keeps-ups}
 use Rattle.board_rows.proofs.KeepsLoses.{keeps-loses}

@@ -1,19 +1,11 @@
 -- The clauses on segments are kept.
-use Rattle.board_rows.proofs.Lists.{tests}
-use Rattle.board_rows.proofs.Lists.{pair_map, pair_both, pair_filter, all_of, all_map, all_both, clash, all_filter}
-use Rattle.std.proofs.Common.{◌≡◌, ◌≢◌, ℕ, ◌<◌, ◌≤◌, Bool, true, false, cond, ◌==◌, List, [], ◌∷◌, refl, sym, ◌∙◌, arith, inl, inr}
-use Rattle.std.specs.Prelude.{Option, Some, None}
+use Rattle.std.proofs.Common.{◌≡◌, ◌≢◌, ℕ, ◌<◌, ◌≤◌, Bool, true, false, cond, ◌==◌, List, ◌∷◌, refl, sym, ◌∙◌, arith, inl, inr, Option, Some, None}
 use Rattle.std.specs.List.{AllByRecursion, filter}
 use Rattle.std.proofs.lemmas.Bool.{eqb-true}
-use Rattle.base_types.specs.declared.names.Xid.{Xid}
-use Rattle.journal.specs.Past.{same_xid}
-use Rattle.journal.specs.declared.deeds.Deed.{Deed}
-use Rattle.journal.proofs.XidLemmas.{same_xid-true}
-use Rattle.board_rows.specs.Board.{Record, Does, TakesBack, Commits, RollsBack, thread_of, scn_of, xid_of, Stage, Active, Over, stage, Rising, IsSafe, ForSegment}
-use Rattle.board_rows.specs.Events.{put, KeepsSegments}
-use Rattle.board_rows.specs.Sound.{Segments, AreOnSafe}
+use Rattle.board_rows.proofs.Words.{Xid, same_xid, Deed, same_xid-true, Record, Does, TakesBack, Commits, RollsBack, thread_of, scn_of, xid_of, Stage, Active, Over, stage, Rising, IsSafe, ForSegment, put, KeepsSegments, Segments, AreOnSafe}
+use Rattle.board_rows.proofs.Lists.{tests, pair_map, pair_both, pair_filter, all_of, all_map, all_both, clash, all_filter}
 use Rattle.board_rows.proofs.ClockSteps.{put-rises}
-use Rattle.board_rows.proofs.Losses.{Kept, older-kept, kept-other, kept-low, AllKept, stage-kept}
+use Rattle.board_rows.proofs.Losses.{Kept, older-kept, kept-other, AllKept, stage-kept}
 
 -- what is safe stays so as more enters
 safe-more : (old now : ℕ → ℕ) → ((j : ℕ) → old j ≤ now j) → (r : Record) → IsSafe old r → IsSafe now r

@@ -1,25 +1,9 @@
 -- The clauses on sessions, on starts and on the order of entries are kept.
-use Rattle.board_rows.proofs.Lists.{clash}
-use Rattle.std.proofs.Common.{◌≡◌, ℕ, ◌<◌, ◌≤◌, Bool, true, false, cond, ◌&&◌, ◌||◌, ◌==◌, max, List, [], ◌∷◌, refl, sym, ap, ◌∙◌, arith, inl, inr, ◌⊎◌}
-use Rattle.std.specs.Prelude.{Option, Some, None, IsSomeAnd}
+use Rattle.std.proofs.Common.{◌≡◌, ℕ, ◌<◌, ◌≤◌, Bool, true, false, cond, ◌==◌, max, List, [], ◌∷◌, refl, sym, ap, ◌∙◌, arith, inl, inr, ◌⊎◌, Option, Some, None, IsSomeAnd}
 use Rattle.std.specs.Option.{option_map_or}
 use Rattle.std.specs.List.{AllByRecursion, list_any}
-use Rattle.std.proofs.lemmas.Bool.{eq-eqb, eqb-true}
-use Rattle.base_types.specs.declared.names.Xid.{Xid}
-use Rattle.journal.specs.declared.entry.Entry.{Entry}
-use Rattle.journal.specs.declared.entry.Entry.TheVariants.{Committed}
-use Rattle.journal.specs.Past.{Past, same_xid}
-use Rattle.journal.specs.Standing.{row_of, is_open, standing, holds}
-use Rattle.journal.specs.Stood.{stood, is_commit, is_commit_at}
-use Rattle.journal.specs.declared.deeds.Commit.{Commit}
-use Rattle.journal.specs.Sees.{sees}
-use Rattle.journal.specs.Good.{Range, RowsAreSeen, FoundIsSeen, CommitIsProper, AckIsProper, StartIsProper, RowIsFree}
-use Rattle.journal.proofs.XidLemmas.{both_true, same_xid-refl, same_xid-true}
-use Rattle.board_rows.specs.Board.{DeedAt, of_xid}
-use Rattle.board_rows.specs.Rows.{IsFree, on, deeds_in, committed_at}
-use Rattle.board_rows.specs.Events.{Scan, put}
-use Rattle.board_rows.specs.Sound.{Sessions, Starts, Answers, IsProper, IsRead, ScanIsSeen}
-use Rattle.board_rows.proofs.ClockSteps.{put-all, put-rises, put-here}
+use Rattle.board_rows.proofs.Words.{Xid, Entry, Past, same_xid, row_of, is_open, standing, holds, stood, is_commit, is_commit_at, Commit, sees, Range, RowsAreSeen, FoundIsSeen, CommitIsProper, AckIsProper, StartIsProper, RowIsFree, both_true, DeedAt, of_xid, IsFree, deeds_in, committed_at, Scan, put, Sessions, Starts, Answers, IsProper, IsRead, ScanIsSeen}
+use Rattle.board_rows.proofs.Lists.{clash}
 
 -- nothing of a transaction has committed
 pub none-stood : (x : Xid) (past : Past) → committed_at x past ≡ None → stood (is_commit x) past ≡ false

@@ -1,17 +1,8 @@
 -- The deeds on a row that are seen.
-use Rattle.board_rows.proofs.Lists.{tests}
-use Rattle.board_rows.proofs.Lists.{clash, all_of}
-use Rattle.std.proofs.Common.{◌≡◌, ℕ, Bool, true, false, cond, ◌&&◌, ◌||◌, ◌==◌, List, [], ◌∷◌, ◌++◌, refl, sym, ap, ◌∙◌, arith}
+use Rattle.std.proofs.Common.{◌≡◌, ℕ, Bool, true, false, ◌||◌, ◌==◌, List, [], ◌∷◌, ◌++◌, refl, ap, ◌∙◌, arith}
 use Rattle.std.specs.List.{AllByRecursion}
-use Rattle.std.proofs.lemmas.Bool.{eqb-true, false≢true}
-use Rattle.base_types.specs.declared.names.Xid.{Xid}
-use Rattle.journal.specs.Past.{same_xid}
-use Rattle.journal.specs.declared.deeds.Deed.{Deed}
-use Rattle.journal.specs.declared.deeds.Deed.TheVariants.{Changes, Locks}
-use Rattle.journal.specs.Standing.{row_of, changes_of}
-use Rattle.journal.proofs.XidLemmas.{both_true, same_xid-true}
-use Rattle.board_rows.specs.Board.{DeedAt, Record, Does, TakesBack, Commits, RollsBack, stands, without, xid_of, is_that, touches, of_xid}
-use Rattle.board_rows.specs.Rows.{on, shown, on_row, deeds_in}
+use Rattle.board_rows.proofs.Words.{Xid, same_xid, Deed, row_of, changes_of, DeedAt, Record, Does, TakesBack, Commits, RollsBack, stands, without, xid_of, is_that, touches, of_xid, on, shown, on_row, deeds_in}
+use Rattle.board_rows.proofs.Lists.{tests, all_of}
 
 -- none of these is on the row
 abbrev pub NoneOn : ℕ → (Xid → Bool) → List DeedAt → Type 0

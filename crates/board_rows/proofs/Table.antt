@@ -1,19 +1,9 @@
 -- One more commit in the history, and the table.
-use Rattle.board_rows.proofs.Lists.{tests}
-use Rattle.board_rows.proofs.Lists.{clash}
-use Rattle.std.proofs.Common.{◌≡◌, ℕ, Bool, true, false, cond, ◌||◌, List, [], ◌∷◌, ◌++◌, refl, sym, ap, ◌∙◌, leb, inl, inr, ◌⊎◌, arith}
-use Rattle.std.specs.Prelude.{Option, Some, None}
+use Rattle.std.proofs.Common.{◌≡◌, ℕ, Bool, true, false, cond, ◌||◌, List, [], ◌∷◌, ◌++◌, refl, sym, ap, ◌∙◌, leb, inl, inr, ◌⊎◌, arith, Option, Some, None}
 use Rattle.std.specs.List.{AllByRecursion}
 use Rattle.std.proofs.lemmas.List.Elements.{filter-append}
-use Rattle.base_types.specs.declared.names.Xid.{Xid}
-use Rattle.journal.specs.Past.{same_xid}
-use Rattle.journal.specs.declared.deeds.Change.{Change}
-use Rattle.journal.specs.Standing.{changes_of}
-use Rattle.journal.specs.declared.deeds.Commit.{Commit}
-use Rattle.journal.specs.History.{is_before, entered, changes_up_to}
-use Rattle.journal.proofs.XidLemmas.{same_xid-true}
-use Rattle.board_rows.specs.Board.{DeedAt}
-use Rattle.board_rows.specs.Rows.{shown, on_row, is_up_to, seen_at, TableStands}
+use Rattle.board_rows.proofs.Words.{Xid, same_xid, Change, changes_of, Commit, is_before, entered, changes_up_to, same_xid-true, DeedAt, shown, on_row, is_up_to, seen_at, TableStands}
+use Rattle.board_rows.proofs.Lists.{tests, clash}
 use Rattle.board_rows.proofs.Shown.{Ahead, shown-or, shown-same, changes_of-append}
 
 -- two commits are in order, or have no row in common

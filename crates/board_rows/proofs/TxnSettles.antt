@@ -1,19 +1,11 @@
 -- The clauses on transactions are kept where the first record of a thread that isn't durable becomes so.
-use Rattle.board_rows.proofs.Lists.{all_map, all_append, clash}
-use Rattle.std.proofs.Common.{◌≡◌, ℕ, ◌<◌, ◌≤◌, Bool, true, false, cond, ◌&&◌, ◌||◌, ◌==◌, List, [], ◌∷◌, ◌++◌, refl, sym, ap, ◌∙◌, subst, arith, leb, inl, inr, ◌⊎◌}
-use Rattle.std.specs.Prelude.{Option, Some, None}
+use Rattle.std.proofs.Common.{◌≡◌, ℕ, ◌<◌, ◌≤◌, Bool, true, false, cond, ◌&&◌, ◌||◌, ◌==◌, List, [], ◌∷◌, ◌++◌, refl, sym, ap, ◌∙◌, subst, arith, leb, inl, inr, ◌⊎◌, Option, Some, None}
 use Rattle.std.specs.List.{AllByRecursion}
 use Rattle.std.proofs.lemmas.Bool.{eq-eqb, eqb-true}
 use Rattle.std.proofs.lemmas.Bool.Decides.{nat_tests}
-use Rattle.base_types.specs.declared.names.Xid.{Xid}
-use Rattle.journal.specs.Past.{same_xid}
-use Rattle.journal.specs.declared.deeds.Change.{Change}
-use Rattle.journal.specs.declared.deeds.Deed.{Deed}
-use Rattle.journal.proofs.XidLemmas.{same_xid-refl, same_xid-true}
-use Rattle.board_rows.specs.Board.{Record, Commits, thread_of, scn_of, xid_of, Stage, Fresh, Active, Over, stage, durable_commit, Rising}
-use Rattle.board_rows.specs.Events.{put}
-use Rattle.board_rows.specs.Sound.{Txns, EndsBy, RecordIsIn}
-use Rattle.board_rows.proofs.ClockSteps.{put-here, put-rises}
+use Rattle.board_rows.proofs.Words.{Xid, same_xid, Change, Deed, same_xid-refl, same_xid-true, Record, Commits, thread_of, scn_of, xid_of, Stage, Fresh, Active, Over, stage, durable_commit, Rising, put, Txns, EndsBy, RecordIsIn}
+use Rattle.board_rows.proofs.Lists.{all_map, all_append, clash}
+use Rattle.board_rows.proofs.ClockSteps.{put-rises}
 use Rattle.board_rows.proofs.TxnSteps.{stage-commit}
 
 -- a record of a thread is durable, or the one that becomes so, or above it

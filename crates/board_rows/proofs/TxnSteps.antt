@@ -1,20 +1,10 @@
 -- The clauses on transactions are kept.
-use Rattle.board_rows.proofs.Lists.{tests}
-use Rattle.board_rows.proofs.Lists.{all_map, all_both, clash}
-use Rattle.std.proofs.Common.{◌≡◌, ◌≢◌, ℕ, ◌-◌, ◌<◌, Bool, true, false, cond, ◌&&◌, ◌||◌, ◌==◌, List, [], ◌∷◌, length, drop, refl, sym, ap, ◌∙◌, subst, arith, eqb, inl, inr, ◌⊎◌}
-use Rattle.std.specs.Prelude.{Option, Some, None}
+use Rattle.std.proofs.Common.{◌≡◌, ◌≢◌, ℕ, ◌-◌, ◌<◌, Bool, true, false, cond, ◌&&◌, ◌||◌, ◌==◌, List, [], ◌∷◌, length, drop, refl, sym, ap, ◌∙◌, subst, arith, eqb, inl, inr, ◌⊎◌, Option, Some, None}
 use Rattle.std.specs.List.{AllByRecursion}
 use Rattle.std.proofs.lemmas.Bool.{eq-eqb, lt-leb}
 use Rattle.std.proofs.lemmas.List.{length-map}
-use Rattle.base_types.specs.declared.names.Xid.{Xid}
-use Rattle.journal.specs.Past.{same_xid}
-use Rattle.journal.specs.declared.deeds.Change.{Change}
-use Rattle.journal.specs.declared.deeds.Deed.{Deed}
-use Rattle.journal.specs.Standing.{changes_of}
-use Rattle.journal.proofs.XidLemmas.{same_xid-refl, same_xid-true}
-use Rattle.board_rows.specs.Board.{Record, Does, TakesBack, Commits, RollsBack, DeedAt, without, of_xid, thread_of, scn_of, xid_of, stands, Stage, Fresh, Active, Over, stage, begun, durable_commit}
-use Rattle.board_rows.specs.Rows.{deeds_in}
-use Rattle.board_rows.specs.Sound.{MayFollow, Follows, Txns, IsMarked, EndsBy, MayGoOn, CanCommit, TxnAgrees, RecordAgrees, RecordIsIn}
+use Rattle.board_rows.proofs.Words.{Xid, same_xid, Change, Deed, changes_of, same_xid-refl, same_xid-true, Record, Does, TakesBack, Commits, RollsBack, DeedAt, without, of_xid, thread_of, scn_of, xid_of, stands, Stage, Fresh, Active, Over, stage, begun, durable_commit, deeds_in, MayFollow, Follows, Txns, IsMarked, EndsBy, MayGoOn, TxnAgrees, RecordAgrees, RecordIsIn}
+use Rattle.board_rows.proofs.Lists.{tests, all_map, all_both, clash}
 use Rattle.board_rows.proofs.RowSteps.{of_xid-without}
 
 -- what has begun isn't fresh, and what is active has begun

@@ -1,6 +1,6 @@
 -- What stands in one row, and what of it is seen.
 use Rattle.std.specs.Prelude.{ℕ, Bool, true, false, if◌then◌else◌, ◌==◌, ◌&&◌, ◌≡◌, ◌<◌, ◌≤◌, ◌⊎◌, nat_le, List, [], ◌∷◌, map, Option, Some, None, IsSomeAnd}
-use Rattle.std.specs.List.{filter, AllByRecursion}
+use Rattle.std.specs.List.{filter}
 use Rattle.board_rows.specs.Words.{Xid, Entry, Committed, Past, same_xid, Change, Deed, row_of, changes_of, Commit, entered, changes_up_to}
 use Rattle.board_rows.specs.Board.{Record, Commits, DeedAt, of_xid, stands, EachPair}
 

@@ -1,5 +1,5 @@
 -- What holds of the board after every event.
-use Rattle.std.specs.Prelude.{ℕ, ◌+◌, ◌≡◌, ◌<◌, ◌≤◌, ◌⊎◌, Bool, true, false, List, [], ◌∷◌, Option, Some, None, IsSomeAnd}
+use Rattle.std.specs.Prelude.{ℕ, ◌+◌, ◌≡◌, ◌<◌, ◌≤◌, ◌⊎◌, Bool, true, false, List, [], Option, Some, None, IsSomeAnd}
 use Rattle.std.specs.List.{AllByRecursion}
 use Rattle.board_rows.specs.Words.{Xid, Value, Entry, Rows, Changed, Past, Each, start_of, home_of, is_up, Change, Deed, row_of, changes_of, standing, is_open, Commit, history, marked, sees, last_of, stood, is_mark, is_commit_by, acked_up_to, started_up_to, came_up, Range, listed, RowsAreSeen, FoundIsSeen, CommitIsProper, AckIsProper, StartIsProper, RowIsFree, changes_in, Replays}
 use Rattle.board_rows.specs.Board.{Record, Does, TakesBack, Commits, RollsBack, thread_of, scn_of, xid_of, stands, of_xid, Stage, Fresh, Active, Over, stage, begun, durable_commit, EachSuffix, EachOver, EachPair, Rising, IsSafe, ForSegment}
