@@ -1,25 +1,25 @@
 -- Every event keeps the board sound.
-use Rattle.std.proofs.Common.{◌≡◌, ℕ, suc, ◌+◌, ◌<◌, ◌≤◌, Bool, true, false, cond, ◌&&◌, ◌||◌, ◌==◌, max, List, ◌∷◌, ◌++◌, refl, sym, ap, ◌∙◌, subst, arith, inl, inr, ◌⊎◌, Option, Some, None, IsSomeAnd}
+use Rattle.std.proofs.Common.{◌≡◌, ◌≢◌, ℕ, suc, ◌+◌, ◌<◌, ◌≤◌, Bool, true, false, cond, ◌&&◌, ◌||◌, ◌==◌, max, List, ◌∷◌, ◌++◌, refl, sym, ap, ◌∙◌, subst, arith, inl, inr, ◌⊎◌, Option, Some, None, IsSomeAnd}
 use Rattle.std.specs.Option.{option_map_or}
 use Rattle.std.specs.List.{AllByRecursion}
 use Rattle.std.proofs.lemmas.Bool.{eqb-true}
-use Rattle.board_rows.proofs.Words.{Xid, Entry, Marked, Committed, Undone, Rolled, Plain, Refused, Recovered, Moved, Checkpointed, NotDone, Start, Past, same_xid, home_of, is_up, Deed, Changes, Locks, row_of, changes_of, standing, is_open, holds, Commit, entered, marked, history, sees, is_of, last_of, own_changes, stood, is_commit_by, is_mark, started_up_to, came_up, acked_up_to, Range, CommitIsProper, FoundIsSeen, EachSuffix, Record, Does, TakesBack, Commits, RollsBack, DeedAt, without, thread_of, scn_of, xid_of, stands, of_xid, Fresh, Active, Over, stage, begun, Rising, FreeUnder, IsFree, on, deeds_in, committed_at, commit_of, logged, wrap_in, has_end, Board, Scan, IsLate, IsNote, MayOpen, MayStart, MayRead, MayChange, MayTakeBack, MayRoll, MaySettle, MayAnswer, MayAck, MayUp, MayJoin, put, after, entry_of, unread, anew, read_on, is_own, value_there, Sound, IsRead, RowsStand, ScanIsSeen, Answers, MayGoOn, RowsAreLate, IsMarked, RecordIsIn, Sessions, Follows}
+use Rattle.board_rows.proofs.Words.{Xid, Entry, Marked, Committed, Undone, Rolled, Plain, Refused, Recovered, Moved, Checkpointed, NotDone, Start, Past, same_xid, home_of, is_up, Deed, Changes, Locks, row_of, changes_of, standing, is_open, holds, Commit, entered, marked, history, sees, is_of, last_of, own_changes, stood, is_commit_by, is_mark, started_up_to, came_up, acked_up_to, Range, CommitIsProper, FoundIsSeen, EachSuffix, Record, Does, TakesBack, Commits, RollsBack, DeedAt, without, thread_of, scn_of, xid_of, stands, of_xid, Fresh, Active, Over, stage, Rising, FreeUnder, IsFree, on, deeds_in, committed_at, commit_of, logged, wrap_in, has_end, Board, Scan, IsLate, IsNote, MayOpen, MayStart, MayRead, MayChange, MayTakeBack, MayRoll, MaySettle, MayAnswer, MayAck, MayUp, MayJoin, put, after, entry_of, unread, anew, read_on, is_own, value_there, Sound, IsRead, RowsStand, ScanIsSeen, Answers, RowsAreLate, RecordIsIn, Sessions, Follows}
 use Rattle.board_rows.proofs.Lists.{tests, all_of, all_map, all_both, all_append, clash, suffix_here, suffix_map}
 use Rattle.board_rows.specs.Events
 use Rattle.board_rows.proofs.Table.{OneMore}
 use Rattle.board_rows.proofs.Order.{pair_without, same_xid-sym}
 use Rattle.board_rows.proofs.ClockSteps.{put-here, put-all, put-rises, clocks-records, clocks-raises, clocks-learns, clocks-settles}
 use Rattle.board_rows.proofs.RowSteps.{IsNewest, newest-first, rows-changes, rows-back, rows-ends, rows-settles}
-use Rattle.board_rows.proofs.TxnSteps.{txns-changes, txns-back, txns-marks, txns-rolls, goes-new, active-new, begun-used, active-begun}
+use Rattle.board_rows.proofs.TxnSteps.{MayGoOn, txns-changes, txns-back, txns-marks, txns-rolls, goes-new, active-new}
 use Rattle.board_rows.proofs.TxnSettles.{all-placed, txns-settles, settled-quiet, settled-commit, apart-quiet, apart-commit}
 use Rattle.board_rows.proofs.Logged.{logged-quiet, logged-commit, stands-over}
-use Rattle.board_rows.proofs.NumberSteps.{numbers-changes, ended-more}
+use Rattle.board_rows.proofs.NumberSteps.{numbers-changes}
 use Rattle.board_rows.proofs.SegmentSteps.{segments-changes, segments-back, segments-marks, segments-rolls, segments-settles, segments-ups}
 use Rattle.board_rows.proofs.Owns.{under-up, under-committed-more, under-fresh-all}
 use Rattle.board_rows.proofs.LateSteps.{late-reads, late-raises, late-changes, late-back, late-marks, late-rolls, late-settles}
 use Rattle.board_rows.proofs.Look.{changes-free, own-is, live-new, live-low, look-sees, look-late, change-sees, OfRec, stands-from}
 use Rattle.board_rows.proofs.AnswerSteps.{each-read, scan-read, answers-same, settled-same, own-other, unread-seen, anew-at, scan-reads, by_own}
-use Rattle.board_rows.proofs.SessionSteps.{none-stood, some-stood, row-free, push-proper, push-answers, sessions-changes, starts-starts, starts-acks, starts-proper, starts-joins, starts-ups}
+use Rattle.board_rows.proofs.SessionSteps.{none-stood, some-stood, row-free, push-proper, push-answers, sessions-changes, sessions-ends, starts-starts, starts-acks, starts-proper, starts-joins, starts-ups}
 
 module _ (asked : ℕ → Option Range) (insts : ℕ) (b : Board) (sound : Sound asked insts b) where
   abbrev told_at : Xid → Option ℕ
@@ -120,8 +120,8 @@ module _ (asked : ℕ → Option Range) (insts : ℕ) (b : Board) (sound : Sound
   owns-ends : (x : Xid) (z : ℕ) (y : Xid) → last_of z b.past ≡ Some y → cond (same_xid y x) false (is_open y b.past) ≡ true → Under z y b.records × EachSuffix (Under z y) b.records
   owns-ends x z y f o = let h = sound.owns z y f (was_open y (same_xid y x) o) in (suffix_here (Under z y) b.records h, h)
 
-  ended-by : (x : Xid) → stage x b.records ≡ Active → (y : Xid) → cond (same_xid y x) true (has_end y b.past) ≡ true → begun y b.records ≡ true
-  ended-by x is y = ended-more b.records y x (same_xid y x) refl (has_end y b.past) (active-begun x b.records is) (sound.numbers.ended y)
+  ended-by : (x : Xid) (o : Option ℕ) (y : Xid) → cond (same_xid y x) true (has_end y b.past) ≡ true → cond (same_xid y x) (Over o) (stage y b.records) ≢ Fresh
+  ended-by x o y e f = grind (arith, sound.numbers.ended y)
 
   pub keeps-takes_back : (i : ℕ) (x : Xid) (seq row left : ℕ) → MayTakeBack b i x seq row left → Sound asked insts (after b (Events.takes_back i x seq row left))
   keeps-takes_back i x seq row left may = assumption (
@@ -151,7 +151,8 @@ module _ (asked : ℕ → Option Range) (insts : ℕ) (b : Board) (sound : Sound
     rows-ends sound.rows (Commits c x) refl,
     owns-ends x,
     sound.log_history ∙ sym unlogged,
-    ended-by x ((sound.txns.each x).active is),
+    ended-by x (Some c),
+    sessions-ends sound.sessions x (Some c),
     late-raises (Commits c x ∷ b.records) b.clock b.floor (λ y. cond (same_xid y x) false (is_open y b.past)) told_at (put b.clock x.seg c) (rise x.seg)
         (late-marks b.records b.clock b.floor (λ x. is_open x b.past) told_at c x is ((sound.txns.each x).active is) (omega arith) sound.late),
     scans-at x,
@@ -175,7 +176,8 @@ module _ (asked : ℕ → Option Range) (insts : ℕ) (b : Board) (sound : Sound
     segments-rolls sound.segments i (b.clock i + 1) x may.may.0 may.may.1,
     rows-ends sound.rows (RollsBack i (b.clock i + 1) x) refl,
     owns-ends x,
-    ended-by x may.may.0,
+    ended-by x None,
+    sessions-ends sound.sessions x None,
     late-raises (RollsBack i (b.clock i + 1) x ∷ b.records) b.clock b.floor (λ y. cond (same_xid y x) false (is_open y b.past)) told_at (put b.clock i (b.clock i + 1)) (rise i)
         (late-rolls b.records b.clock b.floor (λ x. is_open x b.past) told_at i (b.clock i + 1) x sound.late),
     scans-at x,
@@ -197,7 +199,7 @@ module _ (asked : ℕ → Option Range) (insts : ℕ) (b : Board) (sound : Sound
     clocks-settles sound.clocks x.seg c (drawn-at newer (Commits c x) there may.place),
     txns-settles sound.txns newer (Commits c x) there now (λ d j. (d == c && j == x.seg) || stood (is_commit_by d j) b.past) may.place may.new may.first sound.clocks.rising (settled-commit sound.txns c x) (apart-commit sound.txns c x may.new),
     segments-settles sound.segments x.seg c may.new,
-    rows-settles sound.rows x a now refl more marks.same below,
+    rows-settles sound.rows x a now refl more marks.0 below,
     owns,
     told_history,
     late-settles b.records b.clock b.floor (λ y. is_open y b.past) told_at now less sound.late,
@@ -211,7 +213,7 @@ module _ (asked : ℕ → Option Range) (insts : ℕ) (b : Board) (sound : Sound
       is : stage x b.records ≡ Over (Some c)
       is = (all_append (RecordIsIn b.records (λ y. is_open y b.past)) newer (Commits c x ∷ there) (subst (AllByRecursion (RecordIsIn b.records (λ y. is_open y b.past))) may.place sound.txns.each_record)).1.0.ends
 
-      marks : IsMarked (marked x c b.past) (stood (is_mark x c) b.past) (deeds_in (of_xid x (stands b.records)))
+      marks : (marked x c b.past ≡ changes_of (deeds_in (of_xid x (stands b.records)))) × (stood (is_mark x c) b.past ≡ true)
       marks = (sound.txns.each x).marks c is
 
       a : Commit
@@ -226,7 +228,7 @@ module _ (asked : ℕ → Option Range) (insts : ℕ) (b : Board) (sound : Sound
       told_history : entered a (history b.past) ≡ logged (put b.durable x.seg c) b.records
       told_history =
           let mods : of_xid x (stands b.records) ≡ of_xid x (stands there) = ap (λ recs. of_xid x (stands recs)) may.place ∙ (stands-over c x newer there (subst Follows may.place sound.txns.follows)).1 in
-          ap (λ changes. entered (record { commit_scn = c; inst = x.seg; xid = x; changes = changes }) (history b.past)) (marks.same ∙ ap (λ (ms : List DeedAt). changes_of (deeds_in ms)) mods)
+          ap (λ changes. entered (record { commit_scn = c; inst = x.seg; xid = x; changes = changes }) (history b.past)) (marks.0 ∙ ap (λ (ms : List DeedAt). changes_of (deeds_in ms)) mods)
           ∙ (ap (entered (commit_of c x there)) (sound.log_history ∙ ap (logged b.durable) may.place)
           ∙ (sym (logged-commit b.durable c x may.new newer there (subst Rising may.place sound.clocks.rising) may.first) ∙ ap (logged (put b.durable x.seg c)) (sym may.place)))
 
@@ -240,10 +242,10 @@ module _ (asked : ℕ → Option Range) (insts : ℕ) (b : Board) (sound : Sound
       less y e = grind arith
 
       answers : Answers asked b.floor b.scan b.past (entered a (history b.past))
-      answers = answers-same asked b.floor (history b.past) (entered a (history b.past)) (settled-same b.records b.clock b.floor (λ y. is_open y b.past) x a more.new is marks.same below sound.late sound.rows) b.scan b.past sound.answers
+      answers = answers-same asked b.floor (history b.past) (entered a (history b.past)) (settled-same b.records b.clock b.floor (λ y. is_open y b.past) x a more.new is marks.0 below sound.late sound.rows) b.scan b.past sound.answers
 
       proper : CommitIsProper b.past (Committed x c x.seg)
-      proper = (refl, marks.stood, none-stood x b.past more.new, sound.txns.apart c x.seg may.new)
+      proper = (refl, marks.1, none-stood x b.past more.new, sound.txns.apart c x.seg may.new)
 
   pub keeps-settles : (newer : List Record) (r : Record) (there : List Record) → MaySettle b newer r there → Sound asked insts (after b (Events.settles newer r there))
   keeps-settles newer (Commits c x) there may = settles-commit newer c x there may
@@ -300,7 +302,7 @@ module _ (asked : ℕ → Option Range) (insts : ℕ) (b : Board) (sound : Sound
     -- what the other sessions read
     -- a transaction of another session is another
     differ : (y : ℕ) (w : Xid) → (z == y) ≡ false → last_of y b.past ≡ Some w → same_xid w x ≡ false
-    differ y w off e = grind (arith, tests, mine, sound.sessions.single z y x, sound.sessions.used y x, begun-used x b.records)
+    differ y w off e = grind (arith, tests, mine, sound.sessions.single z y x, sound.sessions.used y x)
 
     -- what the other sessions read
     change-scans : (now : Past) → ((y : ℕ) → last_of y now ≡ cond (is_of y n b.past) (Some x) (last_of y b.past)) → ((y : Xid) → same_xid y x ≡ false → (is_open y now ≡ is_open y b.past) × (standing y now ≡ standing y b.past))
@@ -313,11 +315,8 @@ module _ (asked : ℕ → Option Range) (insts : ℕ) (b : Board) (sound : Sound
         same : (y : ℕ) → (z == y) ≡ false → own_changes y now ≡ own_changes y b.past
         same y off = own-other b.past now y (last y ∙ rw may.started (rw off refl)) (λ w e. other w (differ y w off e))
 
-    mine-wrap : (begun x b.records ≡ true) ⊎ (x.wrap ≡ suc (wrap_in x.seg x.slot b.records))
-    mine-wrap = elim may.mine [ inl o ↦ inl (active-begun x b.records ((sound.txns.each x).active (own-is z x b.past o).1)) | inr o ↦ inr o.2 ]
-
-    mine-begun : (last_of z b.past ≡ Some x) ⊎ (begun x b.records ≡ false)
-    mine-begun = grind (arith, mine, begun-used)
+    mine-wrap : (stage x b.records ≡ Active) ⊎ (x.wrap ≡ suc (wrap_in x.seg x.slot b.records))
+    mine-wrap = elim may.mine [ inl o ↦ inl ((sound.txns.each x).active (own-is z x b.past o).1) | inr o ↦ inr o.2 ]
 
     change-owns : (y : ℕ) (w : Xid) → cond (is_of y n b.past) (Some x) (last_of y b.past) ≡ Some w → live w ≡ true → EachSuffix (Under y w) recs
     change-owns y w f o = by (z == y) refl (subst (λ (p : Option Start). cond (option_map_or (λ start. start.session == y) p false) (Some x) (last_of y b.past) ≡ Some w) may.started f)
@@ -334,8 +333,8 @@ module _ (asked : ℕ → Option Range) (insts : ℕ) (b : Board) (sound : Sound
             let h = sound.owns y w e (rw off at o) in
             ((all_of _ (stands b.records) (λ o g. clash (same_xid w x) g off), suffix_here (Under y w) b.records h), h)
 
-    change-sessions : Sessions (λ y. cond (same_xid y x) true (begun y b.records)) (λ y. cond (is_of y n b.past) (Some x) (last_of y b.past)) (λ y. home_of y b.past)
-    change-sessions = subst (λ (o : Option Start). Sessions (λ y. cond (same_xid y x) true (begun y b.records)) (λ y. cond (option_map_or (λ start. start.session == y) o false) (Some x) (last_of y b.past)) (λ y. home_of y b.past)) (sym may.started) (sessions-changes sound.sessions z x mine-begun may.home)
+    change-sessions : Sessions (λ y. cond (same_xid y x) Active (stage y b.records)) (λ y. cond (is_of y n b.past) (Some x) (last_of y b.past)) (λ y. home_of y b.past)
+    change-sessions = subst (λ (o : Option Start). Sessions (λ y. cond (same_xid y x) Active (stage y b.records)) (λ y. cond (option_map_or (λ start. start.session == y) o false) (Some x) (last_of y b.past)) (λ y. home_of y b.past)) (sym may.started) (sessions-changes sound.sessions z x mine may.home)
 
     change-found : RowsStand recs told_at (history b.past)
     change-found = rows-changes sound.rows s (b.clock i + 1) x seq deed (let le = may.low in omega arith) change-new free may.found

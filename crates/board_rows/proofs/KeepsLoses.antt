@@ -1,12 +1,12 @@
 -- The loss of an instance keeps the board sound.
-use Rattle.std.proofs.Common.{◌≡◌, ℕ, ◌≤◌, Bool, true, false, cond, ◌==◌, List, [], ◌∷◌, refl, sym, ap, ◌∙◌, subst, arith, Option, Some, None}
+use Rattle.std.proofs.Common.{◌≡◌, ◌≢◌, ℕ, ◌≤◌, Bool, true, false, cond, ◌==◌, List, [], ◌∷◌, refl, sym, ap, ◌∙◌, subst, arith, Option, Some, None}
 use Rattle.std.specs.List.{AllByRecursion}
-use Rattle.board_rows.proofs.Words.{Xid, Past, same_xid, home_of, row_of, changes_of, standing, is_open, Commit, history, is_home, last_of, own_changes, started_up_to, Range, same_xid-refl, same_xid-true, EachSuffix, Record, Does, TakesBack, Commits, RollsBack, DeedAt, thread_of, scn_of, xid_of, touches, stands, of_xid, Stage, Fresh, Active, Over, stage, begun, FreeUnder, deeds_in, committed_at, seen_at, IsMade, logged, Board, Loss, Crash, Fault, entry_of_loss, IsLate, MayLose, after, anew, is_kept, kept_of, Sound, Clocks, Sessions, RowsStand, RowsAreLate, ScanIsSeen, EndsBy, CanCommit, RecordIsIn}
+use Rattle.board_rows.proofs.Words.{Xid, Past, same_xid, home_of, row_of, changes_of, standing, is_open, Commit, history, is_home, last_of, own_changes, started_up_to, Range, same_xid-refl, same_xid-true, EachSuffix, Record, Does, TakesBack, Commits, RollsBack, DeedAt, thread_of, scn_of, xid_of, touches, stands, of_xid, Stage, Fresh, Active, Over, stage, FreeUnder, deeds_in, committed_at, seen_at, IsMade, logged, Board, Loss, Crash, Fault, entry_of_loss, IsLate, MayLose, after, anew, is_kept, kept_of, Sound, Clocks, Sessions, RowsStand, RowsAreLate, ScanIsSeen, EndsBy, CanCommit, RecordIsIn}
 use Rattle.board_rows.proofs.Lists.{all_map, clash, all_filter}
 use Rattle.board_rows.specs.Events
 use Rattle.board_rows.proofs.AnswerSteps.{anew-at, by_own}
 use Rattle.board_rows.proofs.SessionSteps.{push-proper, push-answers, starts-loses}
-use Rattle.board_rows.proofs.Losses.{KeepsUnder, keeps-under, Kept, stage-kept, of_xid-kept, own-other, begun-kept, rising-kept}
+use Rattle.board_rows.proofs.Losses.{KeepsUnder, keeps-under, Kept, stage-kept, of_xid-kept, own-other, fresh-kept, rising-kept}
 use Rattle.board_rows.proofs.LossTxns.{committed-is, commit-kept, durable-kept, live-kept, over-before, txns-loses}
 use Rattle.board_rows.proofs.Logged.{IsTold, logged-loses}
 use Rattle.board_rows.proofs.NumberSteps.{numbers-loses}
@@ -131,16 +131,11 @@ module _ (asked : ℕ → Option Range) (insts : ℕ) (b : Board) (sound : Sound
   pub apart : (z : ℕ) (x : Xid) → is_home z i b.past ≡ false → last_of z b.past ≡ Some x → (x.seg == i) ≡ false
   apart z x off e = grind arith
 
-  sessions-loses : Sessions (λ x. begun x there) (λ z. cond (is_home z i b.past) None (last_of z b.past)) (λ z. home_of z b.past)
-  sessions-loses = record {
-    used = λ z x e. (let g = last z x (is_home z i b.past) refl e in begun-kept i kept x b.records (own-other i kept x b.records (apart z x g.0 g.1)) ∙ sound.sessions.used z x g.1);
-    single = λ y z x e f. sound.sessions.single y z x (last y x (is_home y i b.past) refl e).1 (last z x (is_home z i b.past) refl f).1;
-    at_home = λ z x e. sound.sessions.at_home z x (last z x (is_home z i b.past) refl e).1;
-  }
+  sessions-loses : Sessions (λ x. stage x there) (λ z. cond (is_home z i b.past) None (last_of z b.past)) (λ z. home_of z b.past)
+  sessions-loses = record { used = used; single = λ y z x e f. grind (arith, sound.sessions.single y z x); at_home = λ z x e. grind (arith, sound.sessions.at_home z x) }
     where
-      last : (z : ℕ) (x : Xid) (t : Bool) → is_home z i b.past ≡ t → ◌≡◌ {A = Option Xid} (cond t None (last_of z b.past)) (Some x) → (is_home z i b.past ≡ false) × (last_of z b.past ≡ Some x)
-      last z x true e f = absurd (let bad : ◌≡◌ {A = Option Xid} None (Some x) = f in cc)
-      last z x false e f = (e, f)
+      used : (z : ℕ) (x : Xid) → cond (is_home z i b.past) None (last_of z b.past) ≡ Some x → stage x there ≢ Fresh
+      used z x e f = grind (arith, apart z x, fresh-kept i kept x b.records sound.txns.follows, own-other i kept x b.records, sound.sessions.used z x)
 
   scans-loses : (now : Past) → ((z : ℕ) → last_of z now ≡ cond (is_home z i b.past) None (last_of z b.past)) → ((y : Xid) → (y.seg == i) ≡ false → (is_open y now ≡ is_open y b.past) × (standing y now ≡ standing y b.past))
       → (z : ℕ) → ScanIsSeen b.floor (anew (is_home z i b.past) (b.scan z)) (by_own b.floor (history b.past) (own_changes z now))
@@ -174,7 +169,7 @@ module _ (asked : ℕ → Option Range) (insts : ℕ) (b : Board) (sound : Sound
     rows = rows-loses;
     owns = owns-loses;
     log_history = history-loses;
-    numbers = numbers-loses i kept sound.numbers sound.clocks.rising;
+    numbers = numbers-loses i kept sound.numbers sound.clocks.rising sound.txns.follows;
     late = late-loses;
     starts = starts-loses sound.starts i;
     reads_at = λ z. anew-at (is_home z i b.past) (b.scan z) ∙ sound.reads_at z;
@@ -189,7 +184,7 @@ module _ (asked : ℕ → Option Range) (insts : ℕ) (b : Board) (sound : Sound
     rows = rows-loses;
     owns = owns-loses;
     log_history = history-loses;
-    numbers = numbers-loses i kept sound.numbers sound.clocks.rising;
+    numbers = numbers-loses i kept sound.numbers sound.clocks.rising sound.txns.follows;
     late = late-loses;
     starts = starts-loses sound.starts i;
     reads_at = λ z. anew-at (is_home z i b.past) (b.scan z) ∙ sound.reads_at z;

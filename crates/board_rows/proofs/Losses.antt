@@ -3,7 +3,7 @@ use Rattle.std.proofs.Common.{◌≡◌, ◌≢◌, ℕ, ◌<◌, ◌≤◌, Boo
 use Rattle.std.specs.List.{AllByRecursion, filter}
 use Rattle.std.proofs.lemmas.Bool.{eq-eqb, eqb-true}
 use Rattle.std.proofs.lemmas.Bool.Decides.{nat_tests}
-use Rattle.board_rows.proofs.Words.{Xid, same_xid, same_xid-refl, same_xid-true, EachPair, Record, Commits, DeedAt, thread_of, scn_of, xid_of, without, stands_after, stands, of_xid, Fresh, Over, stage, begun, Rising, is_kept, AreNear, LosesNewest, MayFollow, Follows}
+use Rattle.board_rows.proofs.Words.{Xid, same_xid, same_xid-true, EachPair, Record, Commits, DeedAt, thread_of, scn_of, xid_of, without, stands_after, stage_after, Stage, stands, of_xid, Fresh, Over, stage, Rising, is_kept, AreNear, LosesNewest, MayFollow, Follows}
 use Rattle.board_rows.proofs.Lists.{tests, pair_both, pair_filter, all_map, all_of, clash}
 use Rattle.board_rows.proofs.RowSteps.{of_xid-without}
 use Rattle.board_rows.proofs.TxnSteps.{stops}
@@ -18,16 +18,7 @@ fresh-none x recs e = go (stands recs) (all-used recs)
   where
     go : (mods : List DeedAt) → AllByRecursion (λ m. stage m.xid recs ≡ Fresh → ⊥) mods → of_xid x mods ≡ []
     go [] h = refl
-    go (m ∷ mods) h = here (same_xid x m.xid) refl (go mods h.1)
-      where
-        here : (t : Bool) → same_xid x m.xid ≡ t → of_xid x mods ≡ [] → cond t (m ∷ of_xid x mods) (of_xid x mods) ≡ []
-        here false f ih = ih
-        here true f ih = absurd (h.0 (rw (sym (same_xid-true x m.xid f)) e))
-
--- what hasn't begun is fresh
-pub unbegun-fresh : (y : Xid) (all recs : List Record) → AllByRecursion (λ r. begun (xid_of r) all ≡ true) recs → begun y all ≡ false → stage y recs ≡ Fresh
-unbegun-fresh y all [] h off = refl
-unbegun-fresh y all (r ∷ recs) h off = grind (arith, tests, unbegun-fresh y all recs h.1 off)
+    go (m ∷ mods) h = grind (arith, tests, go mods)
 
 -- a record of another changes nothing of a transaction
 pub after-of_xid : (x : Xid) (r : Record) (mods : List DeedAt) → same_xid x (xid_of r) ≡ false → of_xid x (stands_after r mods) ≡ of_xid x mods
@@ -99,10 +90,17 @@ module _ (i kept : ℕ) where
   pub own-other : (x : Xid) (recs : List Record) → (x.seg == i) ≡ false → OwnKept x recs
   own-other x recs off = all_of (λ r. same_xid x (xid_of r) ≡ true → thread_of r ≡ x.seg → Kept r ≡ true) recs (λ r e t. kept-other r (rw t off))
 
-  -- then it has begun as before
-  pub begun-kept : (x : Xid) (recs : List Record) → OwnKept x recs → begun x (filter Kept recs) ≡ begun x recs
-  begun-kept x [] h = refl
-  begun-kept x (r ∷ recs) h = grind (arith, begun-kept x recs h.1)
+  -- then it is fresh where it was
+  fresh-step : (x : Xid) (r : Record) (old now : Stage) → (same_xid x (xid_of r) ≡ true → MayFollow r old) → (same_xid x (xid_of r) ≡ true → thread_of r ≡ x.seg → Kept r ≡ true) → (now ≡ Fresh → old ≡ Fresh) → cond (Kept r) (stage_after x r now) now ≡ Fresh → stage_after x r old ≡ Fresh
+  fresh-step x r old now f h ih e = grind (arith, tests)
+
+  pub fresh-kept : (x : Xid) (recs : List Record) → Follows recs → OwnKept x recs → stage x (filter Kept recs) ≡ Fresh → stage x recs ≡ Fresh
+  fresh-kept x [] f h e = refl
+  fresh-kept x (r ∷ recs) f h e = fresh-step x r (stage x recs) (stage x (filter Kept recs)) (λ g. rw (same_xid-true x (xid_of r) g) f.0) h.0 (fresh-kept x recs f.1 h.1) (by (Kept r) e)
+    where
+      by : (t : Bool) → stage x (cond t (r ∷ filter Kept recs) (filter Kept recs)) ≡ Fresh → cond t (stage_after x r (stage x (filter Kept recs))) (stage x (filter Kept recs)) ≡ Fresh
+      by true e = e
+      by false e = e
 
   -- an end that is there after the loss was there before
   pub over-kept : (x : Xid) (o : Option ℕ) (recs : List Record) → Follows recs → stage x (filter Kept recs) ≡ Over o → stage x recs ≡ Over o
@@ -124,14 +122,7 @@ module _ (i kept : ℕ) where
 
   pub follows-kept : (recs : List Record) → KeepsUnder i kept recs → Follows recs → Follows (filter Kept recs)
   follows-kept [] l f = tt
-  follows-kept (r ∷ recs) l f = here (Kept r) refl (follows-kept recs l.1 f.1)
-    where
-      goes : Kept r ≡ true → MayFollow r (stage (xid_of r) (filter Kept recs))
-      goes k = rw (stage-kept (xid_of r) recs (near-xid (xid_of r) r recs (same_xid-refl (xid_of r)) k l.0)) f.0
-
-      here : (t : Bool) → Kept r ≡ t → Follows (filter Kept recs) → Follows (cond t (r ∷ filter Kept recs) (filter Kept recs))
-      here true k ih = (goes k, ih)
-      here false k ih = ih
+  follows-kept (r ∷ recs) l f = grind (arith, tests, stage-kept (xid_of r) recs, near-xid (xid_of r) r recs, follows-kept recs)
 
   pub rising-kept : (recs : List Record) → Rising recs → Rising (filter Kept recs)
   rising-kept = pair_filter _ Kept

@@ -22,7 +22,7 @@ module _ (asked : ℕ → Option Range) (insts : ℕ) where
     rows = record { order = tt; deeds_replay = tt; table = λ s k. refl; made = tt; replay = tt };
     owns = λ z x e o. (cc);
     log_history = refl;
-    numbers = record { numbered = tt; newest = λ i. ([], refl); within = λ i. tt; wraps = λ seg slot w low up. absurd (omega arith); ended = λ x e. absurd (false≢true e) };
+    numbers = record { numbered = tt; newest = λ i. ([], refl); within = λ i. tt; wraps = λ x low up. absurd (omega arith); ended = λ x e. absurd (false≢true e) };
     late = tt;
     starts = record { acks = λ j low up. omega arith; starts = λ z i at stays is. omega arith; unopened = λ z e. refl; homes = λ z i e. (cc) };
     reads_at = λ z. refl;

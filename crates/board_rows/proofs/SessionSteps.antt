@@ -2,7 +2,7 @@
 use Rattle.std.proofs.Common.{◌≡◌, ℕ, ◌<◌, ◌≤◌, Bool, true, false, cond, ◌==◌, max, List, [], ◌∷◌, refl, sym, ap, ◌∙◌, arith, inl, inr, ◌⊎◌, Option, Some, None, IsSomeAnd}
 use Rattle.std.specs.Option.{option_map_or}
 use Rattle.std.specs.List.{AllByRecursion, list_any}
-use Rattle.board_rows.proofs.Words.{Xid, Entry, Past, same_xid, row_of, is_open, standing, holds, stood, is_commit, is_commit_at, Commit, sees, Range, RowsAreSeen, FoundIsSeen, CommitIsProper, AckIsProper, StartIsProper, RowIsFree, both_true, DeedAt, of_xid, IsFree, deeds_in, committed_at, Scan, put, Sessions, Starts, Answers, IsProper, IsRead, ScanIsSeen}
+use Rattle.board_rows.proofs.Words.{Xid, Entry, Past, same_xid, row_of, is_open, standing, holds, stood, is_commit, is_commit_at, Commit, sees, Range, RowsAreSeen, FoundIsSeen, CommitIsProper, AckIsProper, StartIsProper, RowIsFree, both_true, DeedAt, of_xid, IsFree, deeds_in, committed_at, Scan, put, Sessions, Starts, Answers, IsProper, IsRead, ScanIsSeen, Stage, Over, Fresh, Active}
 use Rattle.board_rows.proofs.Lists.{clash}
 
 -- nothing of a transaction has committed
@@ -36,13 +36,17 @@ pub push-answers : {asked : ℕ → Option Range} {floor : ℕ → ℕ} {old : �
     → ((z : ℕ) → ScanIsSeen floor (now z) (λ s. sees commits (e ∷ past) (record { session = z; snapshot = s }))) → Answers asked floor now (e ∷ past) commits
 push-answers now e h r f i scans = record { rows = (r, h.rows); found = (f, h.found); read = (i, h.read); scans = scans }
 
-module _ {begins : Xid → Bool} {last : ℕ → Option Xid} {home : ℕ → Option ℕ} (h : Sessions begins last home) where
-  pub sessions-opens : (z i : ℕ) → home z ≡ None → Sessions begins last (λ y. cond (y == z) (Some i) (home y))
+module _ {stage_of : Xid → Stage} {last : ℕ → Option Xid} {home : ℕ → Option ℕ} (h : Sessions stage_of last home) where
+  pub sessions-opens : (z i : ℕ) → home z ≡ None → Sessions stage_of last (λ y. cond (y == z) (Some i) (home y))
   sessions-opens z i new = grind arith
 
   -- a session's last transaction is x, its own before or a new one
-  pub sessions-changes : (z : ℕ) (x : Xid) → (last z ≡ Some x) ⊎ (begins x ≡ false) → home z ≡ Some x.seg → Sessions (λ y. cond (same_xid y x) true (begins y)) (λ y. cond (z == y) (Some x) (last y)) home
+  pub sessions-changes : (z : ℕ) (x : Xid) → (last z ≡ Some x) ⊎ (stage_of x ≡ Fresh) → home z ≡ Some x.seg → Sessions (λ y. cond (same_xid y x) Active (stage_of y)) (λ y. cond (z == y) (Some x) (last y)) home
   sessions-changes z x mine is = grind arith
+
+  -- it is over
+  pub sessions-ends : (x : Xid) (o : Option ℕ) → Sessions (λ y. cond (same_xid y x) (Over o) (stage_of y)) last home
+  sessions-ends x o = record { used = λ y w e. grind (arith, h.used y w e); single = h.single; at_home = h.at_home }
 
 module _ {insts : ℕ} {known : ℕ → ℕ} {home : ℕ → Option ℕ} {started : ℕ → ℕ} {came up : ℕ → Bool} {acked : ℕ} (h : Starts insts known home started came up acked) where
   pub starts-opens : (z i : ℕ) → home z ≡ None → i < insts → Starts insts known (λ y. cond (y == z) (Some i) (home y)) started (λ y. cond (y == z) false (came y)) up acked

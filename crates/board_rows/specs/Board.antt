@@ -1,5 +1,5 @@
 -- The board: the redo records of all instances in the order made, the newest first, told without bytes.
-use Rattle.std.specs.Prelude.{ℕ, ◌<◌, ◌≤◌, ◌≡◌, ◌⊎◌, Bool, true, false, if◌then◌else◌, ◌==◌, ◌&&◌, nat_le, List, [], ◌∷◌, Option, Some, None}
+use Rattle.std.specs.Prelude.{ℕ, ◌<◌, ◌≤◌, ◌≡◌, ◌⊎◌, Bool, false, if◌then◌else◌, ◌==◌, ◌&&◌, nat_le, List, [], ◌∷◌, Option, Some, None}
 use Rattle.std.specs.List.{filter, AllByRecursion}
 use Rattle.board_rows.specs.Words.{Xid, Deed, same_xid, row_of}
 
@@ -83,15 +83,6 @@ stage_after xid _ before = before
 abbrev pub stage : Xid → List Record → Stage
 stage xid [] = Fresh
 stage xid (r ∷ older) = stage_after xid r (stage xid older)
-
--- whether a transaction has changed or locked a row
-abbrev pub begun_after : Xid → Record → Bool → Bool
-begun_after xid (Does scn other seq deed) before = if same_xid xid other then true else before
-begun_after xid _ before = before
-
-abbrev pub begun : Xid → List Record → Bool
-begun xid [] = false
-begun xid (r ∷ older) = begun_after xid r (begun xid older)
 
 -- the SCN of a commit that has entered, where the records of its thread have up to an SCN
 abbrev pub durable_commit : ℕ → Stage → Option ℕ

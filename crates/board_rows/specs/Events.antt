@@ -205,8 +205,7 @@ AreNear r o = ((row : ℕ) × (touches row r ≡ true) × (touches row o ≡ tru
 
 -- No record of another thread stands over one that vanishes, on its row or of its transaction.
 abbrev pub LosesNewest : ℕ → ℕ → List Record → Type 0
-LosesNewest inst kept =
-    EachPair (λ r o. thread_of r ≢ inst → AreNear r o → is_kept inst kept o ≡ true)
+LosesNewest inst kept = EachPair (λ r o. thread_of r ≢ inst → AreNear r o → is_kept inst kept o ≡ true)
 
 -- the records that are there after a loss
 abbrev pub kept_of : ℕ → ℕ → List Record → List Record
@@ -267,18 +266,12 @@ unread snapshot first = record { snapshot = snapshot; first = first; count = 0; 
 
 -- what a session has read counts no more once its transaction does something
 abbrev pub anew : Bool → Scan → Scan
-anew true scan = unread scan.snapshot scan.first
-anew false scan = scan
+anew t scan = if t then unread scan.snapshot scan.first else scan
 
 -- one more row was read
 abbrev pub read_on : Scan → Value → Scan
 read_on scan v =
-    record {
-      snapshot = scan.snapshot;
-      first = scan.first;
-      count = suc scan.count;
-      rows = scan.rows ++ listed_before (scan.first + scan.count) v [];
-    }
+    record scan { count = suc scan.count; rows = scan.rows ++ listed_before (scan.first + scan.count) v [] }
 
 -- the Committed entry of a record that became durable
 abbrev pub settled : Record → Past → Past
@@ -287,13 +280,12 @@ settled _ past = past
 
 -- a record by an instance at its next SCN, for a transaction; sessions whose last one it is read anew
 abbrev pub recorded : Board → ℕ → Record → Entry → Xid → Board
-recorded board inst r entry xid =
-    record board {
-      records = r ∷ board.records;
-      clock = put board.clock inst (board.clock inst + 1);
-      scan = λ session. anew (is_own (last_of session board.past) xid) (board.scan session);
-      past = entry ∷ board.past;
-    }
+recorded board inst r entry xid = record board {
+  records = r ∷ board.records;
+  clock = put board.clock inst (board.clock inst + 1);
+  scan = λ session. anew (is_own (last_of session board.past) xid) (board.scan session);
+  past = entry ∷ board.past;
+}
 
 -- one more entry, and nothing else
 abbrev pub told : Board → Entry → Board
@@ -302,22 +294,20 @@ told board entry = record board { past = entry ∷ board.past }
 -- what an event does
 abbrev pub after : Board → Event → Board
 after board (opens session inst) = told board (Opened session inst)
-after board (starts stmt session inst least first) =
-    record board {
-      known = put board.known inst (max (board.known inst) least);
-      scan = put board.scan session (unread (max (board.known inst) least) first);
-      past = Started stmt session (max (board.known inst) least) ∷ board.past;
-    }
+after board (starts stmt session inst least first) = record board {
+  known = put board.known inst (max (board.known inst) least);
+  scan = put board.scan session (unread (max (board.known inst) least) first);
+  past = Started stmt session (max (board.known inst) least) ∷ board.past;
+}
 after board (learns inst least) = record board { known = put board.known inst (max (board.known inst) least) }
 after board (raises inst scn) = record board { clock = put board.clock inst (max (board.clock inst) scn) }
-after board (changes stmt session snapshot xid seq deed) =
-    record board {
-      records = Does (board.clock xid.seg + 1) xid seq deed ∷ board.records;
-      clock = put board.clock xid.seg (board.clock xid.seg + 1);
-      floor = put board.floor (row_of deed) (max (board.floor (row_of deed)) snapshot);
-      scan = put board.scan session (unread (board.scan session).snapshot (board.scan session).first);
-      past = entry_of stmt xid deed ∷ board.past;
-    }
+after board (changes stmt session snapshot xid seq deed) = record board {
+  records = Does (board.clock xid.seg + 1) xid seq deed ∷ board.records;
+  clock = put board.clock xid.seg (board.clock xid.seg + 1);
+  floor = put board.floor (row_of deed) (max (board.floor (row_of deed)) snapshot);
+  scan = put board.scan session (unread (board.scan session).snapshot (board.scan session).first);
+  past = entry_of stmt xid deed ∷ board.past;
+}
 after board (takes_back inst xid seq row left) =
     recorded board inst (TakesBack inst (board.clock inst + 1) xid seq row) (Undone xid left) xid
 after board (marks stmt xid) =
@@ -325,36 +315,25 @@ after board (marks stmt xid) =
 after board (rolls inst xid) = recorded board inst (RollsBack inst (board.clock inst + 1) xid) (Rolled xid) xid
 after board (settles newer r there) =
     record board { durable = put board.durable (thread_of r) (scn_of r); past = settled r board.past }
-after board (reads session inst row newer there status) =
-    record board {
-      floor = put board.floor row (max (board.floor row) (board.scan session).snapshot);
-      scan = put board.scan session (read_on (board.scan session) (value_there board session row there status));
-    }
+after board (reads session inst row newer there status) = record board {
+  floor = put board.floor row (max (board.floor row) (board.scan session).snapshot);
+  scan = put board.scan session (read_on (board.scan session) (value_there board session row there status));
+}
 after board (answers stmt session) = told board (Rows stmt (board.scan session).rows)
 after board (acks stmt scn xid) = told board (Acked stmt xid scn)
 after board (notes entry) = told board entry
-after board (loses inst kept loss) =
-    record board {
-      records = kept_of inst kept board.records;
-      scan = λ session. anew (is_home session inst board.past) (board.scan session);
-      past = entry_of_loss inst loss ∷ board.past;
-    }
+after board (loses inst kept loss) = record board {
+  records = kept_of inst kept board.records;
+  scan = λ session. anew (is_home session inst board.past) (board.scan session);
+  past = entry_of_loss inst loss ∷ board.past;
+}
 after board (joins inst scn known) =
     record board { clock = put board.clock inst scn; known = put board.known inst known }
 after board (ups line inst) = told board (Up line inst)
 
 -- the first board: nothing has happened
 abbrev pub nothing : Board
-nothing =
-    record {
-      records = [];
-      durable = λ inst. 0;
-      clock = λ inst. 0;
-      known = λ inst. 0;
-      floor = λ row. 0;
-      scan = λ session. unread 0 0;
-      past = [];
-    }
+nothing = record { records = []; durable = λ inst. 0; clock = λ inst. 0; known = λ inst. 0; floor = λ row. 0; scan = λ session. unread 0 0; past = [] }
 
 -- a run of events leads from a board to another, each of them where it may come
 abbrev pub Leads : (ℕ → Option Range) → ℕ → Board → List Event → Board → Type 0

@@ -1,7 +1,7 @@
 -- How the deeds of a segment are numbered, and the transactions of a slot.
-use Rattle.std.specs.Prelude.{ℕ, suc, ◌≡◌, ◌<◌, ◌≤◌, ◌⊎◌, max, Bool, true, false, if◌then◌else◌, ◌==◌, ◌&&◌, List, [], ◌∷◌, ◌++◌, length}
+use Rattle.std.specs.Prelude.{ℕ, suc, ◌≡◌, ◌≢◌, ◌<◌, ◌≤◌, ◌⊎◌, max, Bool, true, false, if◌then◌else◌, ◌==◌, ◌&&◌, List, [], ◌∷◌, ◌++◌, length}
 use Rattle.board_rows.specs.Words.{Xid, Entry, Changed, Locked, Marked, Rolled, Past, same_xid, is_loss_of, Deed, Changes, Locks}
-use Rattle.board_rows.specs.Board.{Record, Does, begun, EachOver}
+use Rattle.board_rows.specs.Board.{Record, Does, Fresh, stage, EachOver}
 
 -- the deeds of a segment that have a record, the newest first
 abbrev pub recorded_after : ℕ → Record → List (Xid × Deed) → List (Xid × Deed)
@@ -24,12 +24,9 @@ told_in inst [] = []
 told_in inst (e ∷ past) = told_after inst e (told_in inst past)
 
 -- those since its instance was last lost
-abbrev pub since_after : ℕ → Entry → List (Xid × Deed) → List (Xid × Deed)
-since_after inst e before = if is_loss_of inst e then [] else told_after inst e before
-
 abbrev pub since_loss : ℕ → Past → List (Xid × Deed)
 since_loss inst [] = []
-since_loss inst (e ∷ past) = since_after inst e (since_loss inst past)
+since_loss inst (e ∷ past) = if is_loss_of inst e then [] else told_after inst e (since_loss inst past)
 
 -- the deeds of a segment bear the numbers 1, 2, .. in the order made
 abbrev pub IsNumbered : Record → List Record → Type 0
@@ -58,10 +55,6 @@ is_deed_of xid (Changed stmt other row found new) = same_xid xid other
 is_deed_of xid (Locked stmt other row) = same_xid xid other
 is_deed_of xid _ = false
 
--- the transaction of a slot with a wrap
-abbrev pub xid_at : ℕ → ℕ → ℕ → Xid
-xid_at seg slot wrap = record { seg = seg; slot = slot; wrap = wrap }
-
 -- whether a transaction was marked or rolled back since its instance was last lost
 abbrev pub end_after : Xid → Entry → Bool → Bool
 end_after xid (Marked stmt other commit_scn) before = if same_xid xid other then true else before
@@ -79,5 +72,5 @@ pub record Numbers (records : List Record) (told since : ℕ → List (Xid × De
   pub numbered : EachOver IsNumbered records
   pub newest : (inst : ℕ) → (rest : List (Xid × Deed)) × (recorded_in inst records ≡ since inst ++ rest)
   pub within : (inst : ℕ) → IsWithin (recorded_in inst records) (told inst)
-  pub wraps : (seg slot wrap : ℕ) → 0 < wrap → wrap ≤ wrap_in seg slot records → has_deed (xid_at seg slot wrap) ≡ true
-  pub ended : (xid : Xid) → has_end xid ≡ true → begun xid records ≡ true
+  pub wraps : (xid : Xid) → 0 < xid.wrap → xid.wrap ≤ wrap_in xid.seg xid.slot records → has_deed xid ≡ true
+  pub ended : (xid : Xid) → has_end xid ≡ true → stage xid records ≢ Fresh

@@ -1,13 +1,13 @@
 -- What holds of the board after every event.
-use Rattle.std.specs.Prelude.{ℕ, ◌+◌, ◌≡◌, ◌<◌, ◌≤◌, ◌⊎◌, Bool, true, false, List, [], Option, Some, None, IsSomeAnd}
+use Rattle.std.specs.Prelude.{ℕ, ◌+◌, ◌≡◌, ◌≢◌, ◌<◌, ◌≤◌, ◌⊎◌, Bool, true, false, List, [], Option, Some, None, IsSomeAnd}
 use Rattle.std.specs.List.{AllByRecursion}
 use Rattle.board_rows.specs.Words.{Xid, Value, Entry, Rows, Changed, Past, Each, start_of, home_of, is_up, Change, Deed, row_of, changes_of, standing, is_open, Commit, history, marked, sees, last_of, stood, is_mark, is_commit_by, acked_up_to, started_up_to, came_up, Range, listed, RowsAreSeen, FoundIsSeen, CommitIsProper, AckIsProper, StartIsProper, RowIsFree, changes_in, Replays}
-use Rattle.board_rows.specs.Board.{Record, Does, TakesBack, Commits, RollsBack, thread_of, scn_of, xid_of, stands, of_xid, Stage, Fresh, Active, Over, stage, begun, durable_commit, EachSuffix, EachOver, EachPair, Rising, IsSafe, ForSegment}
+use Rattle.board_rows.specs.Board.{Record, Does, Commits, RollsBack, thread_of, scn_of, xid_of, stands, of_xid, Stage, Fresh, Active, Over, stage, durable_commit, EachSuffix, EachOver, EachPair, Rising, IsSafe, ForSegment}
 use Rattle.board_rows.specs.Rows.{deeds_in, committed_at, Ordered, TableStands, IsMade, FreeUnder, logged}
 use Rattle.board_rows.specs.Numbers.{Numbers, told_in, since_loss, is_deed_of, has_end}
 use Rattle.board_rows.specs.Events.{Board, Scan, IsLate}
 
--- clocks, and the SCNs of records by thread
+-- The SCNs of a thread rise, and no clock is behind what its instance knows and has made.
 pub record Clocks (records : List Record) (clock known durable : ℕ → ℕ) : Type 0 where
   pub knows : (inst : ℕ) → known inst ≤ clock inst
   pub lasts : (inst : ℕ) → durable inst ≤ clock inst
@@ -22,9 +22,8 @@ IsBelow scn _ = Unit {0}
 -- the records of a committed transaction are below its commit
 abbrev pub EndsBy : Stage → Record → Type 0
 EndsBy st (Commits scn xid) = st ≡ Over (Some scn)
-EndsBy st (Does scn xid seq deed) = IsBelow scn st
-EndsBy st (TakesBack inst scn xid seq row) = IsBelow scn st
 EndsBy st (RollsBack inst scn xid) = Unit {0}
+EndsBy st r = IsBelow (scn_of r) st
 
 -- a change or lock may be a transaction's first record, and no record follows its end
 abbrev pub MayFollow : Record → Stage → Type 0
@@ -37,20 +36,11 @@ MayFollow r Fresh = ⊥
 abbrev pub Follows : List Record → Type 0
 Follows = EachOver (λ r older. MayFollow r (stage (xid_of r) older))
 
--- a transaction that is open or has no record yet
-abbrev pub MayGoOn : List Record → (Xid → Bool) → Xid → Type 0
-MayGoOn records live xid = (live xid ≡ true) ⊎ (stage xid records ≡ Fresh)
-
 -- a transaction that is open or has its commit record
 abbrev pub CanCommit : Bool → Stage → Type 0
 CanCommit live (Over (Some scn)) = Unit {0}
 CanCommit live (Over None) = ⊥
 CanCommit live _ = live ≡ true
-
--- what stands of a transaction, by its deeds, and whether its journal says that it is marked
-pub record IsMarked (changes : List Change) (has : Bool) (deeds : List Deed) : Type 0 where
-  pub same : changes ≡ changes_of deeds
-  pub stood : has ≡ true
 
 -- what the board and the journal say of a transaction: its stage and its deeds on the board; its deeds, whether it
 -- is open, its marks and its commit in the journal
@@ -58,7 +48,7 @@ pub record TxnAgrees (st : Stage) (deeds stand : List Deed) (live : Bool) (mark 
     (committed : Option ℕ) (upto : ℕ) : Type 0 where
   pub active : live ≡ true → st ≡ Active
   pub stands : (live ≡ true) ⊎ (st ≡ Fresh) → stand ≡ deeds
-  pub marks : (scn : ℕ) → st ≡ Over (Some scn) → IsMarked (mark scn) (has_mark scn) deeds
+  pub marks : (scn : ℕ) → st ≡ Over (Some scn) → (mark scn ≡ changes_of deeds) × (has_mark scn ≡ true)
   pub commits : committed ≡ durable_commit upto st
   pub rolled : st ≡ Over None → deeds ≡ []
 
@@ -71,7 +61,7 @@ pub record RecordAgrees (st : Stage) (live : Bool) (r : Record) : Type 0 where
 abbrev pub RecordIsIn : List Record → (Xid → Bool) → Record → Type 0
 RecordIsIn records live r = RecordAgrees (stage (xid_of r) records) (live (xid_of r)) r
 
--- the transactions of the journal are those of the board
+-- A transaction is on the board what it is in the journal.
 pub record Txns (records : List Record) (durable : ℕ → ℕ) (stand : Xid → List Deed) (live : Xid → Bool)
     (mark : Xid → ℕ → List Change) (has_mark : Xid → ℕ → Bool) (committed : Xid → Option ℕ)
     (has_commit : ℕ → ℕ → Bool) : Type 0 where
@@ -93,13 +83,13 @@ pub record Segments (records : List Record) (durable : ℕ → ℕ) (live : Xid 
   pub safe : AllByRecursion (λ r. up (xid_of r).seg ≡ true → IsSafe durable r) records
   pub under : AreOnSafe durable records
 
--- the last transactions of the sessions
-pub record Sessions (begins : Xid → Bool) (last : ℕ → Option Xid) (home : ℕ → Option ℕ) : Type 0 where
-  pub used : (session : ℕ) (xid : Xid) → last session ≡ Some xid → begins xid ≡ true
+-- A session's last transaction has begun, on its instance, and is no other session's.
+pub record Sessions (stage_of : Xid → Stage) (last : ℕ → Option Xid) (home : ℕ → Option ℕ) : Type 0 where
+  pub used : (session : ℕ) (xid : Xid) → last session ≡ Some xid → stage_of xid ≢ Fresh
   pub single : (other session : ℕ) (xid : Xid) → last other ≡ Some xid → last session ≡ Some xid → other ≡ session
   pub at_home : (session : ℕ) (xid : Xid) → last session ≡ Some xid → home session ≡ Some xid.seg
 
--- the table is what stands of the commits
+-- What stands in the rows is what has committed, and replays: the table is what stands of the commits.
 pub record RowsStand (records : List Record) (committed : Xid → Option ℕ) (commits : List Commit) : Type 0 where
   pub order : EachSuffix (λ older. Ordered committed (stands older)) records
   pub deeds_replay : EachSuffix (λ older. Replays (changes_of (deeds_in (stands older)))) records
@@ -141,7 +131,7 @@ pub record ScanIsSeen (floor : ℕ → ℕ) (scan : Scan) (value : ℕ → ℕ �
   pub seen : scan.rows ≡ listed (value scan.snapshot) scan.first scan.count
   pub read : AreRead floor scan.snapshot scan.first scan.count
 
--- what was answered, and what is being read
+-- What was answered, and what is being read, is what sessions see.
 pub record Answers (asked : ℕ → Option Range) (floor : ℕ → ℕ) (scan : ℕ → Scan) (past : Past)
     (commits : List Commit) : Type 0 where
   pub rows : Each (RowsAreSeen asked commits) past
@@ -159,18 +149,13 @@ pub record IsProper (past : Past) : Type 0 where
 
 -- What holds of a board after every run, where statements ask for these rows and there are so many instances.
 pub record Sound (asked : ℕ → Option Range) (insts : ℕ) (board : Board) : Type 0 where
-  -- the SCNs of a thread rise, and no clock is behind what its instance knows and has made
   pub clocks : Clocks board.records board.clock board.known board.durable
-  -- a transaction is on the board what it is in the journal
   pub txns : Txns board.records board.durable (λ xid. standing xid board.past) (λ xid. is_open xid board.past)
       (λ xid scn. marked xid scn board.past) (λ xid scn. stood (is_mark xid scn) board.past)
       (λ xid. committed_at xid board.past) (λ scn inst. stood (is_commit_by scn inst) board.past)
-  -- a session's last transaction has begun, on its instance, and is no other session's
-  pub sessions : Sessions (λ xid. begun xid board.records) (λ session. last_of session board.past)
+  pub sessions : Sessions (λ xid. stage xid board.records) (λ session. last_of session board.past)
       (λ session. home_of session board.past)
-  -- who is open where an instance is up, and what others have written for it
   pub segments : Segments board.records board.durable (λ xid. is_open xid board.past) (λ inst. is_up inst board.past)
-  -- what stands in the rows is what has committed, and replays
   pub rows : RowsStand board.records (λ xid. committed_at xid board.past) (history board.past)
   -- under a deed of an open transaction all on its row is its own, or committed up to its session's last start
   pub owns : (session : ℕ) (xid : Xid) → last_of session board.past ≡ Some xid → is_open xid board.past ≡ true →
@@ -178,18 +163,14 @@ pub record Sound (asked : ℕ → Option Range) (insts : ℕ) (board : Board) : 
       (stands older)) board.records
   -- the journal's history is that of the durable records
   pub log_history : history board.past ≡ logged board.durable board.records
-  -- the numbers of deeds and the wraps of slots
   pub numbers : Numbers board.records (λ inst. told_in inst board.past) (λ inst. since_loss inst board.past)
       (λ xid. stood (is_deed_of xid) board.past) (λ xid. has_end xid board.past)
-  -- no commit will change what was read
   pub late : RowsAreLate board.records board.clock board.floor (λ xid. is_open xid board.past)
       (λ xid. committed_at xid board.past)
-  -- statements start at or above what was answered
   pub starts : Starts insts board.known (λ session. home_of session board.past)
       (λ session. started_up_to session board.past) (λ session. came_up session board.past)
       (λ inst. is_up inst board.past) (acked_up_to board.past)
   -- sessions read at the highest snapshot that they started at
   pub reads_at : (session : ℕ) → (board.scan session).snapshot ≡ started_up_to session board.past
-  -- what was answered, and what is being read, is what sessions see
   pub answers : Answers asked board.floor board.scan board.past (history board.past)
-  pub proper : IsProper board.past  -- entries stand where they may
+  pub proper : IsProper board.past
