@@ -1,9 +1,9 @@
 -- What a loss leaves of the board.
-use Rattle.std.proofs.Common.{◌≡◌, ◌≢◌, ℕ, ◌<◌, ◌≤◌, Bool, true, false, cond, ◌==◌, leb, List, [], ◌∷◌, refl, sym, ◌∙◌, arith, inr, Option, Some}
+use Rattle.std.proofs.Common.{◌≡◌, ◌≢◌, ℕ, ◌<◌, ◌≤◌, Bool, true, false, ◌==◌, leb, List, [], ◌∷◌, refl, sym, ◌∙◌, arith, inr, Option, Some}
 use Rattle.std.specs.List.{AllByRecursion, filter}
 use Rattle.std.proofs.lemmas.Bool.{eq-eqb, eqb-true}
 use Rattle.std.proofs.lemmas.Bool.Decides.{nat_tests}
-use Rattle.board_rows.proofs.Words.{Xid, same_xid, same_xid-true, EachPair, Record, Commits, DeedAt, thread_of, scn_of, xid_of, without, stands_after, stage_after, Stage, stands, of_xid, Fresh, Over, stage, Rising, is_kept, AreNear, LosesNewest, MayFollow, Follows}
+use Rattle.board_rows.proofs.Words.{Xid, same_xid, same_xid-true, EachPair, Record, Commits, DeedAt, thread_of, scn_of, xid_of, without, stands_after, Does, TakesBack, RollsBack, stands, of_xid, Fresh, Over, stage, Rising, is_kept, AreNear, LosesNewest, Follows}
 use Rattle.board_rows.proofs.Lists.{tests, pair_both, pair_filter, all_map, all_of, clash}
 use Rattle.board_rows.proofs.RowSteps.{of_xid-without}
 use Rattle.board_rows.proofs.TxnSteps.{stops}
@@ -90,17 +90,12 @@ module _ (i kept : ℕ) where
   pub own-other : (x : Xid) (recs : List Record) → (x.seg == i) ≡ false → OwnKept x recs
   own-other x recs off = all_of (λ r. same_xid x (xid_of r) ≡ true → thread_of r ≡ x.seg → Kept r ≡ true) recs (λ r e t. kept-other r (rw t off))
 
-  -- then it is fresh where it was
-  fresh-step : (x : Xid) (r : Record) (old now : Stage) → (same_xid x (xid_of r) ≡ true → MayFollow r old) → (same_xid x (xid_of r) ≡ true → thread_of r ≡ x.seg → Kept r ≡ true) → (now ≡ Fresh → old ≡ Fresh) → cond (Kept r) (stage_after x r now) now ≡ Fresh → stage_after x r old ≡ Fresh
-  fresh-step x r old now f h ih e = grind (arith, tests)
-
   pub fresh-kept : (x : Xid) (recs : List Record) → Follows recs → OwnKept x recs → stage x (filter Kept recs) ≡ Fresh → stage x recs ≡ Fresh
   fresh-kept x [] f h e = refl
-  fresh-kept x (r ∷ recs) f h e = fresh-step x r (stage x recs) (stage x (filter Kept recs)) (λ g. rw (same_xid-true x (xid_of r) g) f.0) h.0 (fresh-kept x recs f.1 h.1) (by (Kept r) e)
-    where
-      by : (t : Bool) → stage x (cond t (r ∷ filter Kept recs) (filter Kept recs)) ≡ Fresh → cond t (stage_after x r (stage x (filter Kept recs))) (stage x (filter Kept recs)) ≡ Fresh
-      by true e = e
-      by false e = e
+  fresh-kept x (Does c y seq d ∷ recs) f h e = grind (arith, tests, fresh-kept x recs f.1 h.1)
+  fresh-kept x (TakesBack j c y seq row ∷ recs) f h e = grind (arith, tests, fresh-kept x recs f.1 h.1)
+  fresh-kept x (Commits c y ∷ recs) f h e = grind (arith, tests, fresh-kept x recs f.1 h.1)
+  fresh-kept x (RollsBack j c y ∷ recs) f h e = grind (arith, tests, fresh-kept x recs f.1 h.1)
 
   -- an end that is there after the loss was there before
   pub over-kept : (x : Xid) (o : Option ℕ) (recs : List Record) → Follows recs → stage x (filter Kept recs) ≡ Over o → stage x recs ≡ Over o

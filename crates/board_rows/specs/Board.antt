@@ -74,15 +74,13 @@ pub data Stage : Type 0 where
   Active : Stage
   Over : (commit : Option ℕ) → Stage
 
-abbrev pub stage_after : Xid → Record → Stage → Stage
-stage_after xid (Does scn other seq deed) before = if same_xid xid other then Active else before
-stage_after xid (Commits scn other) before = if same_xid xid other then Over (Some scn) else before
-stage_after xid (RollsBack inst scn other) before = if same_xid xid other then Over None else before
-stage_after xid _ before = before
-
+-- which of these it is
 abbrev pub stage : Xid → List Record → Stage
 stage xid [] = Fresh
-stage xid (r ∷ older) = stage_after xid r (stage xid older)
+stage xid (Does scn other seq deed ∷ older) = if same_xid xid other then Active else stage xid older
+stage xid (Commits scn other ∷ older) = if same_xid xid other then Over (Some scn) else stage xid older
+stage xid (RollsBack inst scn other ∷ older) = if same_xid xid other then Over None else stage xid older
+stage xid (_ ∷ older) = stage xid older
 
 -- the SCN of a commit that has entered, where the records of its thread have up to an SCN
 abbrev pub durable_commit : ℕ → Stage → Option ℕ

@@ -42,8 +42,7 @@ IsLate snapshot live _ clock = live ≡ true → snapshot ≤ clock
 
 -- that, on a board, of a transaction
 abbrev pub IsLateHere : Board → ℕ → Xid → Type 0
-IsLateHere board snapshot xid =
-    committed_at xid board.past ≡ None
+IsLateHere board snapshot xid = committed_at xid board.past ≡ None
     → IsLate snapshot (is_open xid board.past) (stage xid board.records) (board.clock xid.seg)
 
 -- how an instance is lost: it crashes, as a line asks, or a fault or a bad block ends it
@@ -71,8 +70,7 @@ pub data Event : Type 0 where
   rolls : (inst : ℕ) (xid : Xid) → Event  -- an instance makes the record that a transaction is rolled back
   -- a record becomes durable: the one between the newer records and those that were there before it
   settles : (newer : List Record) (r : Record) (there : List Record) → Event
-  -- a session reads a row in an image that is the content after the records `there`; `status` is what headers told of
-  -- who has committed up to its snapshot
+  -- a session reads a row in an image after the records `there`; `status` is who, by headers, has committed up to its snapshot
   reads : (session inst row : ℕ) (newer there : List Record) (status : Xid → Bool) → Event
   answers : (stmt session : ℕ) → Event  -- the rows that a session has read are the answer of its statement
   acks : (stmt scn : ℕ) (xid : Xid) → Event  -- a statement is answered that its transaction has committed
@@ -95,8 +93,7 @@ pub record MayStart (board : Board) (session inst least : ℕ) : Type 0 where
 
 -- A row is looked at for a session on an instance, at a snapshot. The image is the content of its block after the
 -- records `there`, and `status` is what headers told of who has committed up to the snapshot.
-pub record MayLook (board : Board) (session inst snapshot row : ℕ) (newer there : List Record)
-    (status : Xid → Bool) : Type 0 where
+pub record MayLook (board : Board) (session inst snapshot row : ℕ) (newer there : List Record) (status : Xid → Bool) : Type 0 where
   pub home : home_of session board.past ≡ Some inst  -- the session is on this instance
   pub low : snapshot ≤ board.clock inst  -- the snapshot is one that its clock has reached
   pub image : board.records ≡ newer ++ there  -- the image is of some moment up to now
@@ -114,10 +111,8 @@ value_there board session row there status =
     value_by (changes_of (shown row (λ xid. is_own (own session board.past) xid || status xid) (stands there))) row
 
 -- A session reads the next row of its statement.
-pub record MayRead (board : Board) (session inst row : ℕ) (newer there : List Record)
-    (status : Xid → Bool) : Type 0 where
-  -- the look is right at its snapshot
-  pub look : MayLook board session inst (board.scan session).snapshot row newer there status
+pub record MayRead (board : Board) (session inst row : ℕ) (newer there : List Record) (status : Xid → Bool) : Type 0 where
+  pub look : MayLook board session inst (board.scan session).snapshot row newer there status  -- the look is right at its snapshot
   pub next : row ≡ (board.scan session).first + (board.scan session).count  -- rows are read in order
 
 -- a change found what stands in the row
@@ -139,8 +134,7 @@ pub record MayChange (board : Board) (stmt session snapshot : ℕ) (xid : Xid) (
   pub last : snapshot ≡ started_up_to session board.past  -- the snapshot is the highest of the session
   -- the newest deed that stands on the row is the transaction's own, or committed up to the snapshot
   pub newest : NewestIsFree (λ other. committed_at other board.past) snapshot xid (row_of deed) (stands board.records)
-  -- the new record is above each snapshot for which the row was read
-  pub floor : board.floor (row_of deed) ≤ board.clock xid.seg
+  pub floor : board.floor (row_of deed) ≤ board.clock xid.seg  -- the new record is above each snapshot for which the row was read
   pub found : Finds deed (stands board.records)  -- a change finds the value that stands in the row
 
 -- a transaction that has no end is ended by its own instance while it is open, and by any once its instance was lost
@@ -155,8 +149,7 @@ pub record MayTakeBack (board : Board) (inst : ℕ) (xid : Xid) (seq row left : 
   pub newest : of_xid xid (stands board.records) ≡ taken ∷ rest  -- it is the newest of the transaction that stands
   pub number : seq ≡ taken.seq  -- the record names it by its number
   pub place : row ≡ row_of taken.deed  -- and by its row
-  -- while the transaction is open the entry tells how many are left
-  pub stays : is_open xid board.past ≡ true → left ≡ length rest
+  pub stays : is_open xid board.past ≡ true → left ≡ length rest  -- while the transaction is open the entry tells how many are left
 
 -- A transaction has been rolled back.
 pub record MayRoll (board : Board) (inst : ℕ) (xid : Xid) : Type 0 where
@@ -207,14 +200,9 @@ AreNear r o = ((row : ℕ) × (touches row r ≡ true) × (touches row o ≡ tru
 abbrev pub LosesNewest : ℕ → ℕ → List Record → Type 0
 LosesNewest inst kept = EachPair (λ r o. thread_of r ≢ inst → AreNear r o → is_kept inst kept o ≡ true)
 
--- the records that are there after a loss
-abbrev pub kept_of : ℕ → ℕ → List Record → List Record
-kept_of inst kept records = filter (is_kept inst kept) records
-
 -- under each change or lock that is kept each record for its segment is kept, by whichever thread
 abbrev pub KeepsSegments : ℕ → ℕ → List Record → Type 0
-KeepsSegments inst kept =
-    EachPair (λ r o. is_kept inst kept r ≡ true → ForSegment (λ o. is_kept inst kept o ≡ true) r o)
+KeepsSegments inst kept = EachPair (λ r o. is_kept inst kept r ≡ true → ForSegment (λ o. is_kept inst kept o ≡ true) r o)
 
 -- An instance is lost, with some of its newest records.
 pub record MayLose (board : Board) (inst kept : ℕ) : Type 0 where
@@ -231,8 +219,7 @@ pub record MayJoin (board : Board) (inst scn known : ℕ) : Type 0 where
 -- An instance comes up.
 pub record MayUp (board : Board) (inst : ℕ) : Type 0 where
   pub heard : acked_up_to board.past ≤ board.known inst  -- its statements will see each answered commit
-  -- no transaction of its segment is left without an end
-  pub ended : (xid : Xid) → xid.seg ≡ inst → stage xid board.records ≢ Active
+  pub ended : (xid : Xid) → xid.seg ≡ inst → stage xid board.records ≢ Active  -- no transaction of its segment is left without an end
   -- what other threads have for its segment is durable
   pub safe : AllByRecursion (λ r. (xid_of r).seg ≡ inst → IsSafe board.durable r) board.records
 
@@ -270,8 +257,7 @@ anew t scan = if t then unread scan.snapshot scan.first else scan
 
 -- one more row was read
 abbrev pub read_on : Scan → Value → Scan
-read_on scan v =
-    record scan { count = suc scan.count; rows = scan.rows ++ listed_before (scan.first + scan.count) v [] }
+read_on scan v = record scan { count = suc scan.count; rows = scan.rows ++ listed_before (scan.first + scan.count) v [] }
 
 -- the Committed entry of a record that became durable
 abbrev pub settled : Record → Past → Past
@@ -323,12 +309,11 @@ after board (answers stmt session) = told board (Rows stmt (board.scan session).
 after board (acks stmt scn xid) = told board (Acked stmt xid scn)
 after board (notes entry) = told board entry
 after board (loses inst kept loss) = record board {
-  records = kept_of inst kept board.records;
+  records = filter (is_kept inst kept) board.records;
   scan = λ session. anew (is_home session inst board.past) (board.scan session);
   past = entry_of_loss inst loss ∷ board.past;
 }
-after board (joins inst scn known) =
-    record board { clock = put board.clock inst scn; known = put board.known inst known }
+after board (joins inst scn known) = record board { clock = put board.clock inst scn; known = put board.known inst known }
 after board (ups line inst) = told board (Up line inst)
 
 -- the first board: nothing has happened
@@ -338,5 +323,4 @@ nothing = record { records = []; durable = λ inst. 0; clock = λ inst. 0; known
 -- a run of events leads from a board to another, each of them where it may come
 abbrev pub Leads : (ℕ → Option Range) → ℕ → Board → List Event → Board → Type 0
 Leads asked insts board [] end = board ≡ end
-Leads asked insts board (event ∷ events) end =
-    May asked insts board event × Leads asked insts (after board event) events end
+Leads asked insts board (event ∷ events) end = May asked insts board event × Leads asked insts (after board event) events end

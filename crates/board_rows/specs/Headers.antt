@@ -6,14 +6,11 @@ use Rattle.board_rows.specs.Board.{Record, Commits, RollsBack, scn_of, xid_of, t
 use Rattle.board_rows.specs.Events.{Board}
 
 -- the SCN of a transaction's end, by a commit or a rollback: all that a header has of it
-abbrev pub ended_after : Xid → Record → Option ℕ → Option ℕ
-ended_after xid (Commits scn other) before = if same_xid xid other then Some scn else before
-ended_after xid (RollsBack inst scn other) before = if same_xid xid other then Some scn else before
-ended_after xid _ before = before
-
 abbrev pub ended : Xid → List Record → Option ℕ
 ended xid [] = None
-ended xid (r ∷ older) = ended_after xid r (ended xid older)
+ended xid (Commits scn other ∷ older) = if same_xid xid other then Some scn else ended xid older
+ended xid (RollsBack inst scn other ∷ older) = if same_xid xid other then Some scn else ended xid older
+ended xid (_ ∷ older) = ended xid older
 
 -- A row is looked at for a snapshot in an image that is the content after the records `there`; the header of a
 -- transaction's segment is that after `mid ++ there`, a later moment.

@@ -4,13 +4,11 @@ use Rattle.board_rows.specs.Words.{Xid, Entry, Changed, Locked, Marked, Rolled, 
 use Rattle.board_rows.specs.Board.{Record, Does, Fresh, stage, EachOver}
 
 -- the deeds of a segment that have a record, the newest first
-abbrev pub recorded_after : ℕ → Record → List (Xid × Deed) → List (Xid × Deed)
-recorded_after inst (Does scn xid seq deed) before = if inst == xid.seg then (xid, deed) ∷ before else before
-recorded_after inst _ before = before
-
 abbrev pub recorded_in : ℕ → List Record → List (Xid × Deed)
 recorded_in inst [] = []
-recorded_in inst (r ∷ older) = recorded_after inst r (recorded_in inst older)
+recorded_in inst (Does scn xid seq deed ∷ older) =
+    if inst == xid.seg then (xid, deed) ∷ recorded_in inst older else recorded_in inst older
+recorded_in inst (_ ∷ older) = recorded_in inst older
 
 -- the deeds of a segment that a journal tells, the newest first
 abbrev pub told_after : ℕ → Entry → List (Xid × Deed) → List (Xid × Deed)
@@ -40,14 +38,11 @@ IsWithin (deed ∷ deeds) [] = ⊥
 IsWithin (deed ∷ deeds) (first ∷ told) = ((deed ≡ first) × IsWithin deeds told) ⊎ IsWithin (deed ∷ deeds) told
 
 -- the greatest wrap of a slot that has a record
-abbrev pub wrap_after : ℕ → ℕ → Record → ℕ → ℕ
-wrap_after seg slot (Does scn xid seq deed) before =
-    if seg == xid.seg && slot == xid.slot then max xid.wrap before else before
-wrap_after seg slot _ before = before
-
 abbrev pub wrap_in : ℕ → ℕ → List Record → ℕ
 wrap_in seg slot [] = 0
-wrap_in seg slot (r ∷ older) = wrap_after seg slot r (wrap_in seg slot older)
+wrap_in seg slot (Does scn xid seq deed ∷ older) =
+    if seg == xid.seg && slot == xid.slot then max xid.wrap (wrap_in seg slot older) else wrap_in seg slot older
+wrap_in seg slot (_ ∷ older) = wrap_in seg slot older
 
 -- a change entry of a transaction
 abbrev pub is_deed_of : Xid → Entry → Bool
@@ -56,19 +51,15 @@ is_deed_of xid (Locked stmt other row) = same_xid xid other
 is_deed_of xid _ = false
 
 -- whether a transaction was marked or rolled back since its instance was last lost
-abbrev pub end_after : Xid → Entry → Bool → Bool
-end_after xid (Marked stmt other commit_scn) before = if same_xid xid other then true else before
-end_after xid (Rolled other) before = if same_xid xid other then true else before
-end_after xid e before = if is_loss_of xid.seg e then false else before
-
 abbrev pub has_end : Xid → Past → Bool
 has_end xid [] = false
-has_end xid (e ∷ past) = end_after xid e (has_end xid past)
+has_end xid (Marked stmt other commit_scn ∷ past) = if same_xid xid other then true else has_end xid past
+has_end xid (Rolled other ∷ past) = if same_xid xid other then true else has_end xid past
+has_end xid (e ∷ past) = if is_loss_of xid.seg e then false else has_end xid past
 
 -- The numbers of a segment's deeds, in the records and in the journal, and the wraps of its slots; who has ended since
 -- the loss of its instance has a record.
-pub record Numbers (records : List Record) (told since : ℕ → List (Xid × Deed))
-    (has_deed has_end : Xid → Bool) : Type 0 where
+pub record Numbers (records : List Record) (told since : ℕ → List (Xid × Deed)) (has_deed has_end : Xid → Bool) : Type 0 where
   pub numbered : EachOver IsNumbered records
   pub newest : (inst : ℕ) → (rest : List (Xid × Deed)) × (recorded_in inst records ≡ since inst ++ rest)
   pub within : (inst : ℕ) → IsWithin (recorded_in inst records) (told inst)

@@ -1,7 +1,7 @@
 -- What stands in one row, and what of it is seen.
 use Rattle.std.specs.Prelude.{ℕ, Bool, true, false, if◌then◌else◌, ◌==◌, ◌&&◌, ◌≡◌, ◌<◌, ◌≤◌, ◌⊎◌, nat_le, List, [], ◌∷◌, map, Option, Some, None, IsSomeAnd}
 use Rattle.std.specs.List.{filter}
-use Rattle.board_rows.specs.Words.{Xid, Entry, Committed, Past, same_xid, Change, Deed, row_of, changes_of, Commit, entered, changes_up_to}
+use Rattle.board_rows.specs.Words.{Xid, Committed, Past, same_xid, Change, Deed, row_of, changes_of, Commit, entered, changes_up_to}
 use Rattle.board_rows.specs.Board.{Record, Commits, DeedAt, of_xid, stands, EachPair}
 
 -- whether a change or lock is on a row
@@ -22,13 +22,10 @@ abbrev pub on_row : ℕ → List Change → List Change
 on_row row changes = filter (λ change. change.row == row) changes
 
 -- the SCN of the commit that a journal tells
-abbrev pub committed_after : Xid → Entry → Option ℕ → Option ℕ
-committed_after xid (Committed other scn inst) before = if same_xid xid other then Some scn else before
-committed_after xid _ before = before
-
 abbrev pub committed_at : Xid → Past → Option ℕ
 committed_at xid [] = None
-committed_at xid (e ∷ past) = committed_after xid e (committed_at xid past)
+committed_at xid (Committed other scn inst ∷ past) = if same_xid xid other then Some scn else committed_at xid past
+committed_at xid (_ ∷ past) = committed_at xid past
 
 -- whether there is a commit up to an SCN
 abbrev pub is_up_to : ℕ → Option ℕ → Bool
@@ -50,14 +47,12 @@ Ordered committed = EachPair (IsOver committed)
 
 -- The table at an SCN is what stands of the transactions that committed up to it.
 abbrev pub TableStands : (Xid → Option ℕ) → List Commit → List DeedAt → Type 0
-TableStands committed commits deeds =
-    (snapshot row : ℕ) →
+TableStands committed commits deeds = (snapshot row : ℕ) →
     on_row row (changes_up_to snapshot commits) ≡ changes_of (shown row (seen_at snapshot committed) deeds)
 
 -- a commit of the history is what stands of its transaction
 abbrev pub IsMade : (Xid → Option ℕ) → List DeedAt → Commit → Type 0
-IsMade committed deeds commit =
-    (committed commit.xid ≡ Some commit.commit_scn)
+IsMade committed deeds commit = (committed commit.xid ≡ Some commit.commit_scn)
     × (commit.changes ≡ changes_of (deeds_in (of_xid commit.xid deeds)))
 
 -- a commit by its record, where these are the records before it
@@ -66,19 +61,15 @@ commit_of scn xid older =
     record { commit_scn = scn; inst = xid.seg; xid = xid; changes = changes_of (deeds_in (of_xid xid (stands older))) }
 
 -- The history that the logs tell: the commits whose records are durable, each with what then stood of it.
-abbrev pub logged_after : (ℕ → ℕ) → Record → List Record → List Commit → List Commit
-logged_after durable (Commits scn xid) older before =
-    if nat_le scn (durable xid.seg) then entered (commit_of scn xid older) before else before
-logged_after durable _ older before = before
-
 abbrev pub logged : (ℕ → ℕ) → List Record → List Commit
 logged durable [] = []
-logged durable (r ∷ older) = logged_after durable r older (logged durable older)
+logged durable (Commits scn xid ∷ older) =
+    if nat_le scn (durable xid.seg) then entered (commit_of scn xid older) (logged durable older) else logged durable older
+logged durable (_ ∷ older) = logged durable older
 
 -- a deed on a row is of a transaction, or of one that has committed up to an SCN
 abbrev pub IsFree : (Xid → Option ℕ) → ℕ → Xid → ℕ → DeedAt → Type 0
-IsFree committed snapshot xid row o =
-    on row o ≡ true → (o.xid ≡ xid) ⊎ IsSomeAnd (committed o.xid) (λ scn. scn ≤ snapshot)
+IsFree committed snapshot xid row o = on row o ≡ true → (o.xid ≡ xid) ⊎ IsSomeAnd (committed o.xid) (λ scn. scn ≤ snapshot)
 
 -- the newest deed on a row is
 abbrev pub NewestIsFree : (Xid → Option ℕ) → ℕ → Xid → ℕ → List DeedAt → Type 0

@@ -42,8 +42,7 @@ CanCommit live (Over (Some scn)) = Unit {0}
 CanCommit live (Over None) = ⊥
 CanCommit live _ = live ≡ true
 
--- what the board and the journal say of a transaction: its stage and its deeds on the board; its deeds, whether it
--- is open, its marks and its commit in the journal
+-- what is said of a transaction: its stage and deeds on the board; its deeds, whether it is open, marks and commit in the journal
 pub record TxnAgrees (st : Stage) (deeds stand : List Deed) (live : Bool) (mark : ℕ → List Change) (has_mark : ℕ → Bool)
     (committed : Option ℕ) (upto : ℕ) : Type 0 where
   pub active : live ≡ true → st ≡ Active
@@ -71,17 +70,14 @@ pub record Txns (records : List Record) (durable : ℕ → ℕ) (stand : Xid →
   pub follows : Follows records
   pub apart : (scn inst : ℕ) → durable inst < scn → has_commit scn inst ≡ false
 
--- Under a change or lock each record that another thread has for its segment has entered, so no loss takes it away.
-abbrev pub AreOnSafe : (ℕ → ℕ) → List Record → Type 0
-AreOnSafe durable = EachPair (ForSegment (IsSafe durable))
-
 -- The transactions of an instance that is up are open until they end, and those of one that is down aren't open; what
--- other threads have for the segment of an instance that is up has entered.
+-- other threads have for the segment of an instance that is up has entered. So it has for a segment that has a change or
+-- lock above it: no loss takes it away.
 pub record Segments (records : List Record) (durable : ℕ → ℕ) (live : Xid → Bool) (up : ℕ → Bool) : Type 0 where
   pub lives : (xid : Xid) → live xid ≡ true → up xid.seg ≡ true
   pub active : (xid : Xid) → stage xid records ≡ Active → up xid.seg ≡ true → live xid ≡ true
   pub safe : AllByRecursion (λ r. up (xid_of r).seg ≡ true → IsSafe durable r) records
-  pub under : AreOnSafe durable records
+  pub under : EachPair (ForSegment (IsSafe durable)) records
 
 -- A session's last transaction has begun, on its instance, and is no other session's.
 pub record Sessions (stage_of : Xid → Stage) (last : ℕ → Option Xid) (home : ℕ → Option ℕ) : Type 0 where
@@ -97,19 +93,16 @@ pub record RowsStand (records : List Record) (committed : Xid → Option ℕ) (c
   pub made : AllByRecursion (IsMade committed (stands records)) commits
   pub replay : Replays (changes_in commits)
 
--- no commit will change what was read: what stands in a row and isn't committed commits above each SCN at which the
--- row was read
+-- No commit will change what was read: what stands in a row and isn't committed commits above each SCN that it was read at.
 abbrev pub RowsAreLate : List Record → (ℕ → ℕ) → (ℕ → ℕ) → (Xid → Bool) → (Xid → Option ℕ) → Type 0
-RowsAreLate records clock floor live committed =
-    AllByRecursion (λ m. committed m.xid ≡ None →
+RowsAreLate records clock floor live committed = AllByRecursion (λ m. committed m.xid ≡ None →
     IsLate (floor (row_of m.deed)) (live m.xid) (stage m.xid records) (clock m.xid.seg)) (stands records)
 
 -- starts are at or above what was answered before
 pub record Starts (insts : ℕ) (known : ℕ → ℕ) (home : ℕ → Option ℕ) (started : ℕ → ℕ) (came : ℕ → Bool)
     (up : ℕ → Bool) (acked : ℕ) : Type 0 where
   pub acks : (inst : ℕ) → inst < insts → up inst ≡ true → acked ≤ known inst
-  pub starts : (session inst : ℕ) → home session ≡ Some inst → came session ≡ false → up inst ≡ true →
-      started session ≤ known inst
+  pub starts : (session inst : ℕ) → home session ≡ Some inst → came session ≡ false → up inst ≡ true → started session ≤ known inst
   pub unopened : (session : ℕ) → home session ≡ None → started session ≡ 0
   pub homes : (session inst : ℕ) → home session ≡ Some inst → inst < insts
 
@@ -119,8 +112,7 @@ AreRead floor snapshot first count = (row : ℕ) → first ≤ row → row < fir
 
 -- the rows that an entry tells of were read at the SCN of its statement
 abbrev pub IsRead : (ℕ → Option Range) → (ℕ → ℕ) → Past → Entry → Type 0
-IsRead asked floor past (Rows stmt rows) =
-    IsSomeAnd (asked stmt) (λ range. IsSomeAnd (start_of stmt past) (λ start.
+IsRead asked floor past (Rows stmt rows) = IsSomeAnd (asked stmt) (λ range. IsSomeAnd (start_of stmt past) (λ start.
     AreRead floor start.snapshot range.first range.count))
 IsRead asked floor past (Changed stmt xid row found new) =
     IsSomeAnd (start_of stmt past) (λ start. start.snapshot ≤ floor row)
@@ -161,8 +153,7 @@ pub record Sound (asked : ℕ → Option Range) (insts : ℕ) (board : Board) : 
   pub owns : (session : ℕ) (xid : Xid) → last_of session board.past ≡ Some xid → is_open xid board.past ≡ true →
       EachSuffix (λ older. FreeUnder (λ other. committed_at other board.past) (started_up_to session board.past) xid
       (stands older)) board.records
-  -- the journal's history is that of the durable records
-  pub log_history : history board.past ≡ logged board.durable board.records
+  pub log_history : history board.past ≡ logged board.durable board.records  -- the journal's history is that of the durable records
   pub numbers : Numbers board.records (λ inst. told_in inst board.past) (λ inst. since_loss inst board.past)
       (λ xid. stood (is_deed_of xid) board.past) (λ xid. has_end xid board.past)
   pub late : RowsAreLate board.records board.clock board.floor (λ xid. is_open xid board.past)
