@@ -31,6 +31,9 @@ pub all_both : {X : Type 0} (P Q R : X → Type 0) (xs : List X) → ((x : X) �
 all_both P Q R [] f h i = tt
 all_both P Q R (x ∷ xs) f h i = (f x h.0 i.0, all_both P Q R xs f h.1 i.1)
 
+pub all_pair : {X : Type 0} (P Q : X → Type 0) (xs : List X) → AllByRecursion P xs → AllByRecursion Q xs → AllByRecursion (λ x. P x × Q x) xs
+all_pair P Q xs = all_both P Q (λ x. P x × Q x) xs (λ x p q. (p, q))
+
 pub all_append : {X : Type 0} (P : X → Type 0) (xs ys : List X) → AllByRecursion P (xs ++ ys) → AllByRecursion P xs × AllByRecursion P ys
 all_append P [] ys h = (tt, h)
 all_append P (x ∷ xs) ys h = let rest = all_append P xs ys h.1 in ((h.0, rest.0), rest.1)

@@ -1,8 +1,7 @@
 -- The clauses on rows are kept by a loss: what vanishes of a row is its newest.
 use Rattle.std.proofs.Common.{◌≡◌, ℕ, Bool, true, false, cond, ◌==◌, List, [], ◌∷◌, refl, sym, ap, ◌∙◌, subst, inl, arith, Option}
 use Rattle.std.specs.List.{AllByRecursion, filter}
-use Rattle.std.proofs.lemmas.Bool.{eq-eqb}
-use Rattle.board_rows.proofs.Words.{Xid, Change, row_of, changes_of, value_by, Replays, Record, DeedAt, xid_of, touches, without, stands_after, stands, EachSuffix, FreeUnder, on, shown, on_row, deeds_in, Ordered, is_kept, AreNear}
+use Rattle.board_rows.proofs.Words.{Xid, Change, row_of, changes_of, value_by, Replays, Record, DeedAt, xid_of, touches, without, stands_after, stands, EachSuffix, FreeUnder, on, shown, on_row, deeds_in, Ordered, is_kept, AreNear, EachPair}
 use Rattle.board_rows.proofs.Lists.{tests, pair_filter, all_map, clash}
 use Rattle.board_rows.proofs.Shown.{shown-later}
 use Rattle.board_rows.proofs.Order.{pair_from}
@@ -34,18 +33,13 @@ Replays-on k (change ∷ older) h = grind (arith, tests, value-on_row, Replays-o
 
 Replays-from : (changes : List Change) → ((k : ℕ) → Replays (on_row k changes)) → Replays changes
 Replays-from [] h = tt
-Replays-from (change ∷ older) h = (head (h change.row), Replays-from older (λ k. tail k (change.row == k) (h k)))
+Replays-from (change ∷ older) h = (head (h change.row), Replays-from older (λ k. tail k (h k)))
   where
-    tail : (k : ℕ) (t : Bool) → Replays (cond t (change ∷ on_row k older) (on_row k older)) → Replays (on_row k older)
-    tail k true g = g.1
-    tail k false g = g
-
-    first : (t : Bool) → t ≡ true → Replays (cond t (change ∷ on_row change.row older) (on_row change.row older)) → change.found ≡ value_by (on_row change.row older) change.row
-    first true e g = g.0
-    first false e g = clash false e refl
+    tail : (k : ℕ) → Replays (on_row k (change ∷ older)) → Replays (on_row k older)
+    tail k g = grind arith
 
     head : Replays (on_row change.row (change ∷ older)) → change.found ≡ value_by older change.row
-    head g = first (change.row == change.row) (eq-eqb change.row change.row refl) g ∙ value-on_row change.row older
+    head g = grind (arith, tests, value-on_row)
 
 on_row-mods : (k : ℕ) (mods : List DeedAt) → on_row k (changes_of (deeds_in mods)) ≡ changes_of (deeds_in (mods_on k mods))
 on_row-mods k [] = refl
@@ -68,42 +62,40 @@ module _ (i kept : ℕ) where
   -- each row is as it was on an earlier board
   row-before : (P : List Record → Type 0) (k : ℕ) (recs : List Record) → KeepsUnder i kept recs → EachSuffix P recs → (older : List Record) × P older × (mods_on k (stands (filter (Kept i kept) recs)) ≡ mods_on k (stands older))
   row-before P k [] l h = ([], h, refl)
-  row-before P k (r ∷ recs) l h = here (Kept i kept r) refl (touches k r) refl (row-before P k recs l.1 h.1)
+  row-before P k (r ∷ recs) l h = by (Kept i kept r) refl (touches k r) refl (row-before P k recs l.1 h.1)
     where
-      here : (t : Bool) → Kept i kept r ≡ t → (u : Bool) → touches k r ≡ u → (older : List Record) × P older × (mods_on k (stands (filter (Kept i kept) recs)) ≡ mods_on k (stands older))
+      by : (t : Bool) → Kept i kept r ≡ t → (u : Bool) → touches k r ≡ u → (older : List Record) × P older × (mods_on k (stands (filter (Kept i kept) recs)) ≡ mods_on k (stands older))
           → (older : List Record) × P older × (mods_on k (stands (cond t (r ∷ filter (Kept i kept) recs) (filter (Kept i kept) recs))) ≡ mods_on k (stands older))
-      here false e u f ih = ih
-      here true e false f ih = (ih.0, ih.1, after-other k r (stands (filter (Kept i kept) recs)) f ∙ ih.2)
-      here true e true f ih = (r ∷ recs, h.0, after-same k r (stands (filter (Kept i kept) recs)) (stands recs) (row-kept k recs (near-row i kept k r recs f e l.0)))
+      by false e u f ih = ih
+      by true e false f ih = (ih.0, ih.1, after-other k r (stands (filter (Kept i kept) recs)) f ∙ ih.2)
+      by true e true f ih = (r ∷ recs, h.0, after-same k r (stands (filter (Kept i kept) recs)) (stands recs) (row-kept k recs (near-row i kept k r recs f e l.0)))
 
   -- earlier boards of what is left
   suffix-kept : (P Q : List Record → Type 0) → ((recs : List Record) → KeepsUnder i kept recs → EachSuffix P recs → Q (filter (Kept i kept) recs)) → (recs : List Record) → KeepsUnder i kept recs → EachSuffix P recs → EachSuffix Q (filter (Kept i kept) recs)
   suffix-kept P Q f [] l h = f [] l h
-  suffix-kept P Q f (r ∷ recs) l h = here (Kept i kept r) (f (r ∷ recs) l h) (suffix-kept P Q f recs l.1 h.1)
-    where
-      here : (t : Bool) → Q (cond t (r ∷ filter (Kept i kept) recs) (filter (Kept i kept) recs)) → EachSuffix Q (filter (Kept i kept) recs) → EachSuffix Q (cond t (r ∷ filter (Kept i kept) recs) (filter (Kept i kept) recs))
-      here true q ih = (q, ih)
-      here false q ih = ih
+  suffix-kept P Q f (r ∷ recs) l h = grind (arith, f (r ∷ recs) l h, suffix-kept P Q f recs l.1 h.1)
 
   -- what is seen of a row is as before, where nothing that vanishes is seen
   pub shown-kept : (k : ℕ) (test : Xid → Bool) (recs : List Record) → KeepsUnder i kept recs → AllByRecursion (λ r. is_kept i kept r ≡ false → touches k r ≡ true → test (xid_of r) ≡ false) recs → shown k test (stands (filter (Kept i kept) recs)) ≡ shown k test (stands recs)
   shown-kept k test [] l h = refl
-  shown-kept k test (r ∷ recs) l h = here (Kept i kept r) refl (touches k r) refl (shown-kept k test recs l.1 h.1)
+  shown-kept k test (r ∷ recs) l h = by (Kept i kept r) refl (touches k r) refl (shown-kept k test recs l.1 h.1)
     where
       by_mods : (xs ys : List DeedAt) → mods_on k xs ≡ mods_on k ys → shown k test xs ≡ shown k test ys
       by_mods xs ys e = sym (shown-on k test xs) ∙ (ap (shown k test) e ∙ shown-on k test ys)
 
-      here : (t : Bool) → Kept i kept r ≡ t → (u : Bool) → touches k r ≡ u → shown k test (stands (filter (Kept i kept) recs)) ≡ shown k test (stands recs) → shown k test (stands (cond t (r ∷ filter (Kept i kept) recs) (filter (Kept i kept) recs))) ≡ shown k test (stands (r ∷ recs))
-      here false e u f ih = ih ∙ sym (shown-later k test (r ∷ []) recs (h.0 e, tt))
-      here true e false f ih =
-          by_mods (stands_after r (stands (filter (Kept i kept) recs))) (stands (filter (Kept i kept) recs)) (after-other k r (stands (filter (Kept i kept) recs)) f)
-          ∙ (ih ∙ by_mods (stands recs) (stands_after r (stands recs)) (sym (after-other k r (stands recs) f)))
-      here true e true f ih = by_mods (stands_after r (stands (filter (Kept i kept) recs))) (stands_after r (stands recs)) (after-same k r (stands (filter (Kept i kept) recs)) (stands recs) (row-kept k recs (near-row i kept k r recs f e l.0)))
+      by : (t : Bool) → Kept i kept r ≡ t → (u : Bool) → touches k r ≡ u → shown k test (stands (filter (Kept i kept) recs)) ≡ shown k test (stands recs) → shown k test (stands (cond t (r ∷ filter (Kept i kept) recs) (filter (Kept i kept) recs))) ≡ shown k test (stands (r ∷ recs))
+      by false e u f ih = ih ∙ sym (shown-later k test (r ∷ []) recs (h.0 e, tt))
+      by true e false f ih = by_mods _ (stands (filter (Kept i kept) recs)) (after-other k r _ f) ∙ (ih ∙ by_mods (stands recs) _ (sym (after-other k r (stands recs) f)))
+      by true e true f ih = by_mods _ _ (after-same k r (stands (filter (Kept i kept) recs)) (stands recs) (row-kept k recs (near-row i kept k r recs f e l.0)))
 
   -- the order and the replay are kept
+  -- what holds of each pair on each earlier board, where what stands on two rows is apart
+  pairs-kept : (R : DeedAt → DeedAt → Type 0) → ((m o : DeedAt) → on (row_of m.deed) o ≡ false → R m o) → (recs : List Record) → KeepsUnder i kept recs → EachSuffix (λ older. EachPair R (stands older)) recs → EachSuffix (λ older. EachPair R (stands older)) (filter (Kept i kept) recs)
+  pairs-kept R apart = suffix-kept (λ older. EachPair R (stands older)) (λ older. EachPair R (stands older)) (λ recs l h.
+      pair_from R apart (stands (filter (Kept i kept) recs)) (λ k. (let b = row-before (λ older. EachPair R (stands older)) k recs l h in subst (EachPair R) (sym b.2) (pair_filter R (on k) (stands b.0) b.1))))
+
   pub order-kept : (committed : Xid → Option ℕ) (recs : List Record) → KeepsUnder i kept recs → EachSuffix (λ older. Ordered committed (stands older)) recs → EachSuffix (λ older. Ordered committed (stands older)) (filter (Kept i kept) recs)
-  order-kept committed = suffix-kept (λ older. Ordered committed (stands older)) (λ older. Ordered committed (stands older)) (λ recs l h.
-      pair_from _ (λ m o e a. clash (on (row_of m.deed) o) a e) (stands (filter (Kept i kept) recs)) (λ k. (let b = row-before (λ older. Ordered committed (stands older)) k recs l h in subst (Ordered committed) (sym b.2) (pair_filter _ (on k) (stands b.0) b.1))))
+  order-kept committed = pairs-kept _ (λ m o e a. clash (on (row_of m.deed) o) a e)
 
   pub replay-kept : (recs : List Record) → KeepsUnder i kept recs → EachSuffix (λ older. Replays (changes_of (deeds_in (stands older)))) recs → EachSuffix (λ older. Replays (changes_of (deeds_in (stands older)))) (filter (Kept i kept) recs)
   replay-kept = suffix-kept (λ older. Replays (changes_of (deeds_in (stands older)))) (λ older. Replays (changes_of (deeds_in (stands older)))) (λ recs l h.
@@ -112,5 +104,4 @@ module _ (i kept : ℕ) where
       subst Replays (sym same) (Replays-on k (changes_of (deeds_in (stands b.0))) b.1))))
 
   pub under-kept : (committed : Xid → Option ℕ) (s : ℕ) (x : Xid) (recs : List Record) → KeepsUnder i kept recs → EachSuffix (λ older. FreeUnder committed s x (stands older)) recs → EachSuffix (λ older. FreeUnder committed s x (stands older)) (filter (Kept i kept) recs)
-  under-kept committed s x = suffix-kept (λ older. FreeUnder committed s x (stands older)) (λ older. FreeUnder committed s x (stands older)) (λ recs l h.
-      pair_from _ (λ m o e f a. clash (on (row_of m.deed) o) a e) (stands (filter (Kept i kept) recs)) (λ k. (let b = row-before (λ older. FreeUnder committed s x (stands older)) k recs l h in subst (FreeUnder committed s x) (sym b.2) (pair_filter _ (on k) (stands b.0) b.1))))
+  under-kept committed s x = pairs-kept _ (λ m o e f a. clash (on (row_of m.deed) o) a e)

@@ -1,11 +1,10 @@
 -- Replaying what stands, and the history.
-use Rattle.std.proofs.Common.{◌≡◌, ℕ, ◌<◌, ◌≤◌, Bool, true, false, cond, ◌||◌, max, List, [], ◌∷◌, ◌++◌, refl, sym, ap, ◌∙◌, arith, inl, inr, ◌⊎◌, Option, Some, None, IsSomeAnd, ◌&&◌}
+use Rattle.std.proofs.Common.{◌≡◌, ℕ, ◌≤◌, Bool, true, false, cond, ◌||◌, max, List, [], ◌∷◌, ◌++◌, refl, sym, ap, ◌∙◌, arith, ◌⊎◌, Option, None}
 use Rattle.std.specs.List.{AllByRecursion}
-use Rattle.std.proofs.lemmas.Bool.{eq-eqb}
 use Rattle.std.proofs.lemmas.List.Elements.{filter-append}
 use Rattle.board_rows.proofs.Words.{Xid, same_xid, Change, Deed, row_of, changes_of, Commit, entered, value_by, changes_up_to, changes_in, Replays, same_xid-true, DeedAt, of_xid, IsFree, on, shown, on_row, deeds_in, seen_at, IsOver, Ordered}
-use Rattle.board_rows.proofs.Lists.{tests, clash, all_map}
-use Rattle.board_rows.proofs.Shown.{NoneOn, shown-or, shown-hidden, changes_of-append, on_row-of_xid}
+use Rattle.board_rows.proofs.Lists.{tests, all_map}
+use Rattle.board_rows.proofs.Shown.{NoneOn, shown-or, changes_of-append, on_row-of_xid}
 use Rattle.board_rows.proofs.Table.{IsClear}
 use Rattle.board_rows.proofs.Order.{none-under, Ordered-ahead, all-seen}
 
@@ -68,39 +67,22 @@ own-first k s x committed mods new order =
     ∙ ap (λ cs. cs ++ changes_of (shown k (seen_at s committed) mods)) (sym (on_row-of_xid k x mods)))
 
 free-under : (s : ℕ) (committed : Xid → Option ℕ) (m : DeedAt) (os : List DeedAt) → m.scn ≤ s → AllByRecursion (IsOver committed m) os → AllByRecursion (IsFree committed s m.xid (row_of m.deed)) os
-free-under s committed m os le h = all_map (IsOver committed m) (IsFree committed s m.xid (row_of m.deed)) os (λ o over a. one o (same_xid m.xid o.xid) refl (over a)) h
+free-under s committed m os le = all_map _ _ os one
   where
-    low : (e : Option ℕ) → IsSomeAnd e (λ c. c < m.scn) → IsSomeAnd e (λ c. c ≤ s)
-    low None l = l
-    low (Some c) l = omega (arith, l, le)
-
-    one : (o : DeedAt) (t : Bool) → same_xid m.xid o.xid ≡ t → (same_xid m.xid o.xid ≡ false → IsSomeAnd (committed o.xid) (λ c. c < m.scn)) → (o.xid ≡ m.xid) ⊎ IsSomeAnd (committed o.xid) (λ c. c ≤ s)
-    one o true e f = inl (sym (same_xid-true m.xid o.xid e))
-    one o false e f = inr (low (committed o.xid) (f e))
+    one : (o : DeedAt) → IsOver committed m o → IsFree committed s m.xid (row_of m.deed) o
+    one o over a = grind (arith, tests)
 
 -- what stands of a transaction replays on the table
 pub replays-on : (s : ℕ) (x : Xid) (committed : Xid → Option ℕ) (base : List Change) (mods : List DeedAt) → committed x ≡ None → AllByRecursion (λ m. m.scn ≤ s) mods → Ordered committed mods
     → ((k : ℕ) → NoneOn k (same_xid x) mods ⊎ (on_row k base ≡ changes_of (shown k (seen_at s committed) mods))) → Replays (changes_of (deeds_in mods)) → ReplaysOn base (changes_of (deeds_in (of_xid x mods)))
 replays-on s x committed base [] new low h based r = tt
-replays-on s x committed base (m ∷ mods) new low h based r =
-    here (same_xid x m.xid) refl (replays-on s x committed base mods new low.1 h.1 (λ k. below k (based k)) (Replays-tail m.deed (deeds_in mods) r))
+replays-on s x committed base (m ∷ mods) new low h based r = by (same_xid x m.xid) refl (replays-on s x committed base mods new low.1 h.1 (λ k. below k (based k)) (Replays-tail m.deed (deeds_in mods) r))
   where
-    other : seen_at s committed m.xid ≡ true → (t : Bool) → same_xid m.xid x ≡ t → t ≡ false
-    other p false e = refl
-    other p true e = clash (seen_at s committed m.xid) p (rw (same_xid-true m.xid x e, new) refl)
-
-    split : (k : ℕ) (o t : Bool) → on k m ≡ o → seen_at s committed m.xid ≡ t → on_row k base ≡ changes_of (cond (o && t) (m.deed ∷ shown k (seen_at s committed) mods) (shown k (seen_at s committed) mods)) → NoneOn k (same_xid x) mods ⊎ (on_row k base ≡ changes_of (shown k (seen_at s committed) mods))
-    split k true true a t e = inl (none-under k x committed m mods new (other t (same_xid m.xid x) refl) a h.0)
-    split k true false a t e = inr e
-    split k false t a f e = inr e
-
     below : (k : ℕ) → NoneOn k (same_xid x) (m ∷ mods) ⊎ (on_row k base ≡ changes_of (shown k (seen_at s committed) (m ∷ mods))) → NoneOn k (same_xid x) mods ⊎ (on_row k base ≡ changes_of (shown k (seen_at s committed) mods))
-    below k (inl n) = inl n.1
-    below k (inr e) = split k (on k m) (seen_at s committed m.xid) refl refl e
+    below k either = grind (arith, tests, none-under k x committed m mods new)
 
     table : same_xid x m.xid ≡ true → NoneOn (row_of m.deed) (same_xid x) (m ∷ mods) ⊎ (on_row (row_of m.deed) base ≡ changes_of (shown (row_of m.deed) (seen_at s committed) (m ∷ mods))) → on_row (row_of m.deed) base ≡ changes_of (shown (row_of m.deed) (seen_at s committed) mods)
-    table f (inl n) = clash (same_xid x m.xid) f (n.0 (eq-eqb (row_of m.deed) (row_of m.deed) refl))
-    table f (inr e) = e ∙ ap changes_of (shown-hidden (row_of m.deed) (seen_at s committed) m mods (λ a. rw (sym (same_xid-true x m.xid f), new) refl))
+    table f either = grind (arith, tests)
 
     rows : same_xid x m.xid ≡ true → on_row (row_of m.deed) (changes_of (deeds_in mods)) ≡ on_row (row_of m.deed) (changes_of (deeds_in (of_xid x mods)) ++ base)
     rows f =
@@ -111,9 +93,9 @@ replays-on s x committed base (m ∷ mods) new low h based r =
         ∙ (ap (λ cs. on_row k (changes_of (deeds_in (of_xid x mods))) ++ cs) (sym (table f (based k)))
         ∙ sym (filter-append _ (changes_of (deeds_in (of_xid x mods))) base)))
 
-    here : (t : Bool) → same_xid x m.xid ≡ t → ReplaysOn base (changes_of (deeds_in (of_xid x mods))) → ReplaysOn base (changes_of (deeds_in (cond t (m ∷ of_xid x mods) (of_xid x mods))))
-    here true f ih = replays_on-head m.deed (deeds_in mods) (deeds_in (of_xid x mods)) base (rows f) r ih
-    here false f ih = ih
+    by : (t : Bool) → same_xid x m.xid ≡ t → ReplaysOn base (changes_of (deeds_in (of_xid x mods))) → ReplaysOn base (changes_of (deeds_in (cond t (m ∷ of_xid x mods) (of_xid x mods))))
+    by true f ih = replays_on-head m.deed (deeds_in mods) (deeds_in (of_xid x mods)) base (rows f) r ih
+    by false f ih = ih
 
 -- a bound of what stands and of the history
 pub bound : {A : Type 0} (f : A → ℕ) (xs : List A) → (s : ℕ) × ((t : ℕ) → s ≤ t → AllByRecursion (λ x. f x ≤ t) xs)

@@ -1,8 +1,8 @@
 -- The clauses on rows are kept by a change, by a step back, by an end and by a commit that becomes durable.
-use Rattle.std.proofs.Common.{◌≡◌, ℕ, ◌<◌, Bool, true, false, cond, ◌==◌, max, List, [], ◌∷◌, refl, sym, ap, ◌∙◌, arith, inr, ◌⊎◌, Option, Some, None}
+use Rattle.std.proofs.Common.{◌≡◌, ℕ, ◌<◌, true, false, ◌==◌, max, List, [], ◌∷◌, refl, sym, ap, ◌∙◌, arith, inr, ◌⊎◌, Option, None}
 use Rattle.std.specs.List.{AllByRecursion}
-use Rattle.board_rows.proofs.Words.{Xid, same_xid, Deed, Changes, Locks, row_of, changes_of, Commit, is_before, entered, changes_in, Replays, same_xid-refl, same_xid-true, Record, Does, TakesBack, DeedAt, without, is_that, of_xid, stands, IsFree, shown, on_row, deeds_in, seen_at, IsOver, Ordered, IsMade, Finds, RowsStand}
-use Rattle.board_rows.proofs.Lists.{tests, all_map, suffix_here, suffix_map}
+use Rattle.board_rows.proofs.Words.{Xid, same_xid, Deed, row_of, changes_of, Commit, entered, changes_in, Replays, same_xid-refl, Record, Does, TakesBack, DeedAt, without, is_that, of_xid, stands, IsFree, on_row, deeds_in, seen_at, IsOver, Ordered, IsMade, Finds, RowsStand}
+use Rattle.board_rows.proofs.Lists.{tests, tests, all_map, suffix_here, suffix_map}
 use Rattle.board_rows.proofs.Shown.{shown-hidden, shown-without, on_row-all, on_row-of_xid}
 use Rattle.board_rows.proofs.Table.{IsClear, OneMore, TableStands-committed}
 use Rattle.board_rows.proofs.Order.{Ordered-changes, Ordered-committed, pair_without, Ordered-ahead, clear-of}
@@ -41,15 +41,25 @@ Replays-without x seq row committed (m ∷ mods) new h either r = grind (arith, 
 made-other : (committed : Xid → Option ℕ) (mods other : List DeedAt) (x : Xid) → committed x ≡ None → ((y : Xid) → same_xid y x ≡ false → of_xid y mods ≡ of_xid y other) → (a : Commit) → IsMade committed mods a → IsMade committed other a
 made-other committed mods other x new same a made = grind arith
 
+all_entered : (P : Commit → Type 0) (a : Commit) (older : List Commit) → P a → AllByRecursion P older → AllByRecursion P (entered a older)
+all_entered P a [] p h = (p, tt)
+all_entered P a (b ∷ older) p h = grind (arith, all_entered P a older p h.1)
+
 module _ {recs : List Record} {committed : Xid → Option ℕ} {commits : List Commit} (rows : RowsStand recs committed commits) where
+  order : Ordered committed (stands recs)
+  order = suffix_here (λ older. Ordered committed (stands older)) recs rows.order
+
+  replayed : Replays (changes_of (deeds_in (stands recs)))
+  replayed = suffix_here (λ older. Replays (changes_of (deeds_in (stands older)))) recs rows.deeds_replay
+
   pub rows-changes : (s c : ℕ) (x : Xid) (seq : ℕ) (deed : Deed) → s < c → committed x ≡ None
       → AllByRecursion (IsFree committed s x (row_of deed)) (stands recs)
       → Finds deed (stands recs) → RowsStand (Does c x seq deed ∷ recs) committed commits
   rows-changes s c x seq deed lt new free found = record {
-    order = (Ordered-changes committed m (stands recs) s lt free (suffix_here (λ older. Ordered committed (stands older)) recs rows.order), rows.order);
+    order = (Ordered-changes committed m (stands recs) s lt free order, rows.order);
     deeds_replay = (replays deed found, rows.deeds_replay);
     table = λ t k. rows.table t k ∙ ap changes_of (sym (shown-hidden k (seen_at t committed) m (stands recs) (λ _. rw new refl)));
-    made = all_map (IsMade committed (stands recs)) (IsMade committed (m ∷ stands recs)) commits (made-other committed (stands recs) (m ∷ stands recs) x new (λ y e. sym (of_xid-other y m (stands recs) e))) rows.made;
+    made = all_map _ _ commits (made-other committed (stands recs) (m ∷ stands recs) x new (λ y e. sym (of_xid-other y m (stands recs) e))) rows.made;
     replay = rows.replay;
   }
     where
@@ -57,20 +67,16 @@ module _ {recs : List Record} {committed : Xid → Option ℕ} {commits : List C
       m = record { xid = x; seq = seq; scn = c; deed = deed }
 
       replays : (d : Deed) → Finds d (stands recs) → Replays (changes_of (d ∷ deeds_in (stands recs)))
-      replays (Changes change) f = (f, suffix_here (λ older. Replays (changes_of (deeds_in (stands older)))) recs rows.deeds_replay)
-      replays (Locks row) f = suffix_here (λ older. Replays (changes_of (deeds_in (stands older)))) recs rows.deeds_replay
+      replays d f = grind (arith, replayed)
 
   pub rows-back : (i c : ℕ) (x : Xid) (seq row : ℕ) → committed x ≡ None → IsNewest x seq row (stands recs) → RowsStand (TakesBack i c x seq row ∷ recs) committed commits
   rows-back i c x seq row new newest = record {
     order = (pair_without _ x seq row (stands recs) order, rows.order);
-    deeds_replay = (Replays-without x seq row committed (stands recs) new order newest (suffix_here (λ older. Replays (changes_of (deeds_in (stands older)))) recs rows.deeds_replay), rows.deeds_replay);
+    deeds_replay = (Replays-without x seq row committed (stands recs) new order newest replayed, rows.deeds_replay);
     table = λ t k. rows.table t k ∙ ap changes_of (sym (shown-without k (seen_at t committed) x seq row (stands recs) (λ _. rw new refl)));
-    made = all_map (IsMade committed (stands recs)) (IsMade committed (without x seq row (stands recs))) commits (made-other committed (stands recs) (without x seq row (stands recs)) x new (λ y e. sym (of_xid-without y x seq row (stands recs) e))) rows.made;
+    made = all_map _ _ commits (made-other committed (stands recs) (without x seq row (stands recs)) x new (λ y e. sym (of_xid-without y x seq row (stands recs) e))) rows.made;
     replay = rows.replay;
   }
-    where
-      order : Ordered committed (stands recs)
-      order = suffix_here (λ older. Ordered committed (stands older)) recs rows.order
 
   -- an end changes no row
   pub rows-ends : (r : Record) → stands (r ∷ recs) ≡ stands recs → RowsStand (r ∷ recs) committed commits
@@ -78,44 +84,25 @@ module _ {recs : List Record} {committed : Xid → Option ℕ} {commits : List C
 
   pub rows-clear : (x : Xid) (a : Commit) → committed x ≡ None → a.changes ≡ changes_of (deeds_in (of_xid x (stands recs)))
       → AllByRecursion (λ m. same_xid x m.xid ≡ true → m.scn < a.commit_scn) (stands recs) → AllByRecursion (IsClear a) commits
-  rows-clear x a new marked below =
-      all_map (IsMade committed (stands recs)) (IsClear a) commits (λ b made. clear-of x a committed (stands recs) b new (λ k. ap (on_row k) marked ∙ on_row-of_xid k x (stands recs)) (suffix_here (λ older. Ordered committed (stands older)) recs rows.order) below made) rows.made
+  rows-clear x a new marked below = all_map _ _ commits (λ b. clear-of x a committed (stands recs) b new (λ k. ap (on_row k) marked ∙ on_row-of_xid k x (stands recs)) order below) rows.made
 
   pub rows-settles : (x : Xid) (a : Commit) (now : Xid → Option ℕ) → a.xid ≡ x → OneMore x a.commit_scn committed now
       → a.changes ≡ changes_of (deeds_in (of_xid x (stands recs)))
       → AllByRecursion (λ m. same_xid x m.xid ≡ true → m.scn < a.commit_scn) (stands recs)
       → RowsStand recs now (entered a commits)
   rows-settles x a now is more marked below = record {
-    order = suffix_map (λ older. Ordered committed (stands older)) (λ older. Ordered now (stands older)) recs (λ older. Ordered-committed x a.commit_scn committed now (stands older) more) rows.order;
+    order = suffix_map _ _ recs (λ older. Ordered-committed x a.commit_scn committed now (stands older) more) rows.order;
     deeds_replay = rows.deeds_replay;
-    table = TableStands-committed x a committed now commits (stands recs) more same clear (λ k s. Ordered-ahead k s x committed (stands recs) more.new order) rows.table;
-    made = all_entered (IsMade now (stands recs)) a commits here (all_map (IsMade committed (stands recs)) (IsMade now (stands recs)) commits (λ b made. (more.is b.xid ∙ keeps b made (same_xid x b.xid) refl, made.1)) rows.made);
+    table = TableStands-committed x a committed now commits (stands recs) more (λ k. ap (on_row k) marked ∙ on_row-of_xid k x (stands recs)) clear (λ k s. Ordered-ahead k s x committed (stands recs) more.new order) rows.table;
+    made = all_entered (IsMade now (stands recs)) a commits (rw is (more.is x ∙ rw (same_xid-refl x) refl), rw is marked) (all_map _ _ commits keeps rows.made);
     replay = Replays-entered a commits clear (rw marked on) rows.replay;
   }
     where
-      order : Ordered committed (stands recs)
-      order = suffix_here (λ older. Ordered committed (stands older)) recs rows.order
-
-      same : (k : ℕ) → on_row k a.changes ≡ changes_of (shown k (same_xid x) (stands recs))
-      same k = ap (on_row k) marked ∙ on_row-of_xid k x (stands recs)
-
       clear : AllByRecursion (IsClear a) commits
       clear = rows-clear x a more.new marked below
 
-      keeps : (b : Commit) → IsMade committed (stands recs) b → (t : Bool) → same_xid x b.xid ≡ t → cond t (Some a.commit_scn) (committed b.xid) ≡ Some b.commit_scn
-      keeps b made false e = made.0
-      keeps b made true e = absurd (let none : None ≡ Some b.commit_scn = sym more.new ∙ (ap committed (same_xid-true x b.xid e) ∙ made.0) in cc)
-
-      here : IsMade now (stands recs) a
-      here = (rw is (more.is x ∙ rw (same_xid-refl x) refl), rw is marked)
-
-      all_entered : (P : Commit → Type 0) (a : Commit) (older : List Commit) → P a → AllByRecursion P older → AllByRecursion P (entered a older)
-      all_entered P a [] p h = (p, tt)
-      all_entered P a (b ∷ older) p h = go (is_before a b) (all_entered P a older p h.1)
-        where
-          go : (t : Bool) → AllByRecursion P (entered a older) → AllByRecursion P (cond t (b ∷ entered a older) (a ∷ b ∷ older))
-          go true ih = (h.0, ih)
-          go false ih = (p, h)
+      keeps : (b : Commit) → IsMade committed (stands recs) b → IsMade now (stands recs) b
+      keeps b made = grind (arith, tests, more.is b.xid, more.new)
 
       on : ReplaysOn (changes_in commits) (changes_of (deeds_in (of_xid x (stands recs))))
       on =
@@ -123,4 +110,4 @@ module _ {recs : List Record} {committed : Xid → Option ℕ} {commits : List C
           let up = bound (λ (b : Commit). b.commit_scn) commits in
           let s = max low.0 up.0 in
           let all = changes_up_to-all s commits (up.1 s (omega arith)) in
-          replays-on s x committed (changes_in commits) (stands recs) more.new (low.1 s (omega arith)) order (λ k. inr (sym (ap (on_row k) all) ∙ rows.table s k)) (suffix_here (λ older. Replays (changes_of (deeds_in (stands older)))) recs rows.deeds_replay)
+          replays-on s x committed (changes_in commits) (stands recs) more.new (low.1 s (omega arith)) order (λ k. inr (sym (ap (on_row k) all) ∙ rows.table s k)) replayed
