@@ -2,7 +2,7 @@
 use Rattle.std.proofs.Common.{◌≡◌, ℕ, ◌<◌, ◌≤◌, Bool, true, false, List, [], ◌∷◌, ◌++◌, refl, sym, ap, ◌∙◌, subst, arith, inl, inr, ◌⊎◌, Option, Some, None}
 use Rattle.std.specs.List.{AllByRecursion}
 use Rattle.board_rows.proofs.Words.{Xid, same_xid, Range, Record, Commits, DeedAt, scn_of, xid_of, touches, stands, of_xid, Stage, Active, Over, stage, durable_commit, on, shown, deeds_in, committed_at, is_up_to, seen_at, Board, IsLateHere, Sound, Follows, MayFollow, ended, MayTell}
-use Rattle.board_rows.proofs.Lists.{tests, all_append}
+use Rattle.board_rows.proofs.Lists.{tests, all_append, all_both}
 use Rattle.board_rows.proofs.Shown.{shown-later, shown-of_xid}
 use Rattle.board_rows.proofs.TxnSteps.{stops}
 use Rattle.board_rows.proofs.Losses.{after-of_xid}
@@ -84,28 +84,16 @@ module _ (asked : ℕ → Option Range) (insts : ℕ) (b : Board) (sound : Sound
   rolled-high : (e : ℕ) → stage x head ≡ Over None → ended x head ≡ Some e → e ≤ s → ⊥
   rolled-high e is end le = shown-some k x m older more row same (ap (shown k (same_xid x)) (sym place) ∙ (sym still ∙ nothing))
     where
-      low : AllByRecursion (λ r. same_xid x (xid_of r) ≡ true → scn_of r ≤ e) mid
-      low = may.last e is end
-
-      later : AllByRecursion (λ r. touches k r ≡ true → s < scn_of r) mid
-      later = (all_append (λ r. touches k r ≡ true → s < scn_of r) newer mid may.later).1
+      one : (r : Record) → (same_xid x (xid_of r) ≡ true → scn_of r ≤ e) → (touches k r ≡ true → s < scn_of r) → touches k r ≡ true → same_xid x (xid_of r) ≡ false
+      one r low later t = grind arith
 
       still : shown k (same_xid x) (stands head) ≡ shown k (same_xid x) (stands there)
-      still = shown-later k (same_xid x) mid there (both mid low later)
-        where
-          both : (rs : List Record) → AllByRecursion (λ r. same_xid x (xid_of r) ≡ true → scn_of r ≤ e) rs → AllByRecursion (λ r. touches k r ≡ true → s < scn_of r) rs → AllByRecursion (λ r. touches k r ≡ true → same_xid x (xid_of r) ≡ false) rs
-          both [] a c = tt
-          both (r ∷ rs) a c = ((λ t. one (same_xid x (xid_of r)) refl t), both rs a.1 c.1)
-            where
-              one : (u : Bool) → same_xid x (xid_of r) ≡ u → touches k r ≡ true → u ≡ false
-              one false f t = refl
-              one true f t = (let up = c.0 t in let down = a.0 f in absurd (omega (arith, up, down, le)))
+      still = shown-later k (same_xid x) mid there (all_both _ _ _ mid one (may.last e is end) (all_append (λ r. touches k r ≡ true → s < scn_of r) newer mid may.later).1)
 
       nothing : shown k (same_xid x) (stands head) ≡ []
       nothing =
-          let gone = (sound.txns.each x).rolled (over None is) in
           let mods : of_xid x (stands b.records) ≡ of_xid x (stands head) = ap (λ recs. of_xid x (stands recs)) may.image ∙ stands-same x None newer head (subst Follows may.image sound.txns.follows) is in
-          sym (shown-of_xid k x (stands head)) ∙ none-shows k (of_xid x (stands head)) (ap (λ (ms : List DeedAt). deeds_in ms) (sym mods) ∙ gone)
+          sym (shown-of_xid k x (stands head)) ∙ none-shows k (of_xid x (stands head)) (ap (λ (ms : List DeedAt). deeds_in ms) (sym mods) ∙ (sound.txns.each x).rolled (over None is))
 
   pub header-tells : IsTold
   header-tells = grind (arith, tests, ended-agrees, follows-older, not-yet, came-since, over, rolled-high, seen-is)

@@ -11,7 +11,7 @@ use Rattle.board_rows.proofs.Order.{pair_without, same_xid-sym}
 use Rattle.board_rows.proofs.ClockSteps.{put-here, put-all, put-rises, clocks-records, clocks-raises, clocks-learns, clocks-settles}
 use Rattle.board_rows.proofs.RowSteps.{IsNewest, newest-first, rows-changes, rows-back, rows-ends, rows-settles}
 use Rattle.board_rows.proofs.TxnSteps.{MayGoOn, txns-changes, txns-back, txns-marks, txns-rolls, goes-new, active-new}
-use Rattle.board_rows.proofs.TxnSettles.{all-placed, txns-settles, settled-quiet, settled-commit, apart-quiet, apart-commit}
+use Rattle.board_rows.proofs.TxnSettles.{all-placed, txns-settles, settled-quiet, apart-quiet, apart-commit}
 use Rattle.board_rows.proofs.Logged.{logged-quiet, logged-commit, stands-over}
 use Rattle.board_rows.proofs.NumberSteps.{numbers-changes}
 use Rattle.board_rows.proofs.SegmentSteps.{segments-changes, segments-back, segments-marks, segments-rolls, segments-settles, segments-ups}
@@ -189,7 +189,7 @@ module _ (asked : ℕ → Option Range) (insts : ℕ) (b : Board) (sound : Sound
   settles-quiet : (newer : List Record) (r : Record) (there : List Record) → MaySettle b newer r there → ((e : ℕ) (y : Xid) → Commits e y ≡ r → ⊥) → Sound asked insts (record b { durable = put b.durable (thread_of r) (scn_of r) })
   settles-quiet newer r there may never = assumption (
     clocks-settles sound.clocks (thread_of r) (scn_of r) (drawn-at newer r there may.place),
-    txns-settles sound.txns newer r there told_at (λ c i. stood (is_commit_by c i) b.past) may.place may.new may.first sound.clocks.rising (settled-quiet sound.txns r never) (apart-quiet sound.txns (thread_of r) (scn_of r) may.new),
+    txns-settles sound.txns newer r there told_at (λ c i. stood (is_commit_by c i) b.past) may.place may.new may.first sound.clocks.rising (λ y. settled-quiet r never y (told_at y)) (apart-quiet sound.txns (thread_of r) (scn_of r) may.new),
     segments-settles sound.segments (thread_of r) (scn_of r) may.new,
     sound.log_history ∙ sym (logged-quiet b.durable r may.new b.records (rw may.place (all-placed (b.durable (thread_of r)) newer r there (subst Rising may.place sound.clocks.rising) may.first)) never),
   )
@@ -197,7 +197,7 @@ module _ (asked : ℕ → Option Range) (insts : ℕ) (b : Board) (sound : Sound
   settles-commit : (newer : List Record) (c : ℕ) (x : Xid) (there : List Record) → MaySettle b newer (Commits c x) there → Sound asked insts (after b (Events.settles newer (Commits c x) there))
   settles-commit newer c x there may = assumption (
     clocks-settles sound.clocks x.seg c (drawn-at newer (Commits c x) there may.place),
-    txns-settles sound.txns newer (Commits c x) there now (λ d j. (d == c && j == x.seg) || stood (is_commit_by d j) b.past) may.place may.new may.first sound.clocks.rising (settled-commit sound.txns c x) (apart-commit sound.txns c x may.new),
+    txns-settles sound.txns newer (Commits c x) there now (λ d j. (d == c && j == x.seg) || stood (is_commit_by d j) b.past) may.place may.new may.first sound.clocks.rising (λ y. refl) (apart-commit sound.txns c x may.new),
     segments-settles sound.segments x.seg c may.new,
     rows-settles sound.rows x a now refl more marks.0 below,
     owns,
