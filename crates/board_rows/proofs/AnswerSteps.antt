@@ -1,8 +1,8 @@
 -- What was answered stays right, and what is being read too.
 use Rattle.std.proofs.Common.{◌≡◌, ℕ, zero, suc, ◌+◌, ◌<◌, ◌≤◌, Bool, true, false, max, List, [], ◌∷◌, ◌++◌, refl, ap, ◌∙◌, arith, inl, ◌⊎◌, Option, Some, None, IsSomeAnd}
 use Rattle.std.specs.List.{AllByRecursion}
-use Rattle.board_rows.proofs.Words.{Xid, Value, Absent, Num, Entry, Rows, Changed, Start, Past, Each, same_xid, start_of, Change, changes_of, standing, is_open, Commit, entered, changes_up_to, value_by, sees, last_of, own_changes, Range, listed, listed_before, RowsAreSeen, FoundIsSeen, Record, DeedAt, stands, of_xid, Over, stage, on_row, deeds_in, Scan, put, unread, anew, read_on, RowsAreLate, RowsStand, AreRead, IsRead, ScanIsSeen, Answers}
-use Rattle.board_rows.proofs.Lists.{tests}
+use Rattle.board_rows.proofs.Words.{Xid, Value, Entry, Rows, Start, Past, Each, same_xid, start_of, Change, changes_of, standing, is_open, Commit, entered, changes_up_to, value_by, sees, last_of, own_changes, Range, listed, listed_before, RowsAreSeen, FoundIsSeen, Record, DeedAt, stands, of_xid, Over, stage, on_row, deeds_in, Scan, put, unread, anew, read_on, RowsAreLate, RowsStand, AreRead, IsRead, ScanIsSeen, Answers}
+use Rattle.board_rows.proofs.Lists.{cases}
 use Rattle.board_rows.proofs.Shown.{NoneOn, none-shown, on_row-of_xid}
 use Rattle.board_rows.proofs.Table.{row-entered}
 use Rattle.board_rows.proofs.Replay.{value-below}
@@ -24,8 +24,7 @@ listed-more v row (suc count) =
     ∙ before (v row) (listed v (row + 1) count) (listed_before (row + suc count) (v (row + suc count)) [])
   where
     before : (x : Value) (xs ys : List (ℕ × Value)) → listed_before row x (xs ++ ys) ≡ listed_before row x xs ++ ys
-    before Absent xs ys = refl
-    before (Num n) xs ys = refl
+    before x xs ys = grind arith
 
 pub each_map : (P Q : Past → Entry → Type 0) → ((past : Past) (e : Entry) → P past e → Q past e) → (past : Past) → Each P past → Each Q past
 each_map P Q f [] h = tt
@@ -37,7 +36,7 @@ each_both P Q R f (e ∷ past) h i = (f past e h.0 i.0, each_both P Q R f past h
 
 -- what was read stays read
 pub each-read : (asked : ℕ → Option Range) (floor now : ℕ → ℕ) → ((k : ℕ) → floor k ≤ now k) → (past : Past) → Each (IsRead asked floor) past → Each (IsRead asked now) past
-each-read asked floor now up past = grind (arith, tests, each_map)
+each-read asked floor now up past = grind (arith, cases, each_map)
 
 pub scan-read : (floor now : ℕ → ℕ) → ((k : ℕ) → floor k ≤ now k) → (scan : Scan) (value : ℕ → ℕ → Value) → ScanIsSeen floor scan value → ScanIsSeen now scan value
 scan-read floor now up scan value h = record { seen = h.seen; read = λ k low high. (let a = h.read k low high in let b = up k in omega arith) }
@@ -47,34 +46,26 @@ module _ (asked : ℕ → Option Range) (floor : ℕ → ℕ) (old new : List Co
   sees-same : (past : Past) (start : Start) (k : ℕ) → start.snapshot ≤ floor k → sees old past start k ≡ sees new past start k
   sees-same past start k le = value-below k (own_changes start.session past) (changes_up_to start.snapshot old) (changes_up_to start.snapshot new) (same start.snapshot k le)
 
+  rows-same : (items : List (ℕ × Value)) (past : Past) (o : Option Range) (p : Option Start) → IsSomeAnd o (λ range. IsSomeAnd p (λ start. AreRead floor start.snapshot range.first range.count))
+      → IsSomeAnd o (λ range. IsSomeAnd p (λ start. items ≡ listed (sees old past start) range.first range.count)) → IsSomeAnd o (λ range. IsSomeAnd p (λ start. items ≡ listed (sees new past start) range.first range.count))
+  rows-same items past (Some range) (Some start) r e = e ∙ listed-alike (sees old past start) (sees new past start) range.first range.count (λ k low high. sees-same past start k (r k low high))
+  rows-same items past (Some range) None r e = e
+  rows-same items past None p r e = e
+
+  rows-seen : (past : Past) (e : Entry) → IsRead asked floor past e → RowsAreSeen asked old past e → RowsAreSeen asked new past e
+  rows-seen past (Rows n items) = rows-same items past (asked n) (start_of n past)
+  rows-seen past _ = λ r e. e
+
+  found-seen : (past : Past) (e : Entry) → IsRead asked floor past e → FoundIsSeen old past e → FoundIsSeen new past e
+  found-seen past e r f = grind (arith, sees-same past)
+
   pub answers-same : (scan : ℕ → Scan) (past : Past) → Answers asked floor scan past old → Answers asked floor scan past new
   answers-same scan past h = record {
-    rows = each_both (IsRead asked floor) (RowsAreSeen asked old) (RowsAreSeen asked new) rows past h.read h.rows;
-    found = each_both (IsRead asked floor) (FoundIsSeen old) (FoundIsSeen new) found past h.read h.found;
+    rows = each_both _ _ _ rows-seen past h.read h.rows;
+    found = each_both _ _ _ found-seen past h.read h.found;
     read = h.read;
-    scans = λ z. record {
-      seen = (h.scans z).seen ∙ listed-alike (sees old past (record { session = z; snapshot = (scan z).snapshot })) (sees new past (record { session = z; snapshot = (scan z).snapshot })) (scan z).first (scan z).count (λ k low high. sees-same past (record { session = z; snapshot = (scan z).snapshot }) k ((h.scans z).read k low high));
-      read = (h.scans z).read;
-    };
+    scans = λ z. record { seen = (h.scans z).seen ∙ listed-alike _ _ (scan z).first (scan z).count (λ k low high. sees-same past (record { session = z; snapshot = (scan z).snapshot }) k ((h.scans z).read k low high)); read = (h.scans z).read };
   }
-    where
-      rows : (past : Past) (e : Entry) → IsRead asked floor past e → RowsAreSeen asked old past e → RowsAreSeen asked new past e
-      rows past (Rows n items) = two (asked n) (start_of n past)
-        where
-          two : (o : Option Range) (p : Option Start) → IsSomeAnd o (λ range. IsSomeAnd p (λ start. AreRead floor start.snapshot range.first range.count))
-              → IsSomeAnd o (λ range. IsSomeAnd p (λ start. items ≡ listed (sees old past start) range.first range.count)) → IsSomeAnd o (λ range. IsSomeAnd p (λ start. items ≡ listed (sees new past start) range.first range.count))
-          two (Some range) (Some start) r e = e ∙ listed-alike (sees old past start) (sees new past start) range.first range.count (λ k low high. sees-same past start k (r k low high))
-          two (Some range) None r e = e
-          two None p r e = e
-      rows past _ = λ r e. e
-
-      found : (past : Past) (e : Entry) → IsRead asked floor past e → FoundIsSeen old past e → FoundIsSeen new past e
-      found past (Changed n x row before value) = two (start_of n past)
-        where
-          two : (p : Option Start) → IsSomeAnd p (λ start. start.snapshot ≤ floor row) → IsSomeAnd p (λ start. before ≡ sees old past start row) → IsSomeAnd p (λ start. before ≡ sees new past start row)
-          two (Some start) r e = e ∙ sees-same past start row r
-          two None r e = e
-      found past _ = λ r e. e
 
 -- the commit that becomes durable leaves what was read
 module _ (recs : List Record) (scn floor : ℕ → ℕ) (live : Xid → Bool) {committed : Xid → Option ℕ} {commits : List Commit} (x : Xid) (a : Commit)
@@ -85,7 +76,7 @@ module _ (recs : List Record) (scn floor : ℕ → ℕ) (live : Xid → Bool) {c
   none-or-above k (m ∷ mods) h = grind (arith, none-or-above k mods h.1)
 
   pub settled-same : (s k : ℕ) → s ≤ floor k → on_row k (changes_up_to s commits) ≡ on_row k (changes_up_to s (entered a commits))
-  settled-same s k le = grind (arith, tests, row-entered, rows-clear, none-or-above, on_row-of_xid, none-shown)
+  settled-same s k le = grind (arith, cases, row-entered, rows-clear, none-or-above, on_row-of_xid, none-shown)
 
 -- what a session's own transaction did is the same after entries of others
 pub own-other : (past now : Past) (z : ℕ) → last_of z now ≡ last_of z past → ((y : Xid) → last_of z past ≡ Some y → (is_open y now ≡ is_open y past) × (standing y now ≡ standing y past)) → own_changes z now ≡ own_changes z past
@@ -104,7 +95,7 @@ module _ (floor : ℕ → ℕ) (commits : List Commit) where
 
   -- one more row is read
   pub scan-reads : (scan : Scan) (k : ℕ) (value : ℕ → ℕ → Value) → k ≡ scan.first + scan.count → ScanIsSeen floor scan value → ScanIsSeen (put floor k (max (floor k) scan.snapshot)) (read_on scan (value scan.snapshot k)) value
-  scan-reads scan k value is h = grind (arith, tests, listed-more, put-all)
+  scan-reads scan k value is h = grind (arith, cases, listed-more, put-all)
 
 -- what is read anew is read at the same snapshot
 pub anew-at : (t : Bool) (scan : Scan) → (anew t scan).snapshot ≡ scan.snapshot

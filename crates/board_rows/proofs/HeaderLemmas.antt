@@ -1,8 +1,8 @@
 -- A header of a later moment than the image's tells who has committed.
-use Rattle.std.proofs.Common.{◌≡◌, ℕ, ◌<◌, ◌≤◌, Bool, true, false, List, [], ◌∷◌, ◌++◌, refl, sym, ap, ◌∙◌, subst, arith, inl, inr, ◌⊎◌, Option, Some, None}
+use Rattle.std.proofs.Common.{◌≡◌, ℕ, ◌<◌, ◌≤◌, true, false, List, [], ◌∷◌, ◌++◌, refl, sym, ap, ◌∙◌, subst, arith, inl, inr, ◌⊎◌, Option, Some, None}
 use Rattle.std.specs.List.{AllByRecursion}
 use Rattle.board_rows.proofs.Words.{Xid, same_xid, Range, Record, Commits, DeedAt, scn_of, xid_of, touches, stands, of_xid, Stage, Active, Over, stage, durable_commit, on, shown, deeds_in, committed_at, is_up_to, seen_at, Board, IsLateHere, Sound, Follows, MayFollow, ended, MayTell}
-use Rattle.board_rows.proofs.Lists.{tests, all_append, all_both}
+use Rattle.board_rows.proofs.Lists.{cases, all_append, all_both}
 use Rattle.board_rows.proofs.Shown.{shown-later, shown-of_xid}
 use Rattle.board_rows.proofs.TxnSteps.{stops}
 use Rattle.board_rows.proofs.Losses.{after-of_xid}
@@ -34,7 +34,7 @@ stays-over x o (r ∷ newer) head f e = grind (arith, stays-over x o newer head 
 
 stands-same : (x : Xid) (o : Option ℕ) (newer head : List Record) → Follows (newer ++ head) → stage x head ≡ Over o → of_xid x (stands (newer ++ head)) ≡ of_xid x (stands head)
 stands-same x o [] head f e = refl
-stands-same x o (r ∷ newer) head f e = grind (arith, tests, stops, stays-over, after-of_xid, stands-same x o newer head f.1 e)
+stands-same x o (r ∷ newer) head f e = grind (arith, cases, stops, stays-over, after-of_xid, stands-same x o newer head f.1 e)
 
 -- what has no deeds shows none
 none-shows : (k : ℕ) (mods : List DeedAt) → deeds_in mods ≡ [] → shown k (λ y. true) mods ≡ []
@@ -96,4 +96,4 @@ module _ (asked : ℕ → Option Range) (insts : ℕ) (b : Board) (sound : Sound
           sym (shown-of_xid k x (stands head)) ∙ none-shows k (of_xid x (stands head)) (ap (λ (ms : List DeedAt). deeds_in ms) (sym mods) ∙ (sound.txns.each x).rolled (over None is))
 
   pub header-tells : IsTold
-  header-tells = grind (arith, tests, ended-agrees, follows-older, not-yet, came-since, over, rolled-high, seen-is)
+  header-tells = grind (arith, cases, ended-agrees, follows-older, not-yet, came-since, over, rolled-high, seen-is)

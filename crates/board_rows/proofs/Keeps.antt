@@ -1,10 +1,11 @@
 -- Every event keeps the board sound.
+use Rattle.board_rows.proofs.Lists.{cases}
 use Rattle.std.proofs.Common.{◌≡◌, ◌≢◌, ℕ, suc, ◌+◌, ◌<◌, ◌≤◌, Bool, true, false, cond, ◌&&◌, ◌||◌, ◌==◌, max, List, ◌∷◌, ◌++◌, refl, sym, ap, ◌∙◌, subst, arith, inl, inr, ◌⊎◌, Option, Some, None, IsSomeAnd}
 use Rattle.std.specs.Option.{option_map_or}
 use Rattle.std.specs.List.{AllByRecursion}
 use Rattle.std.proofs.lemmas.Bool.{eqb-true}
 use Rattle.board_rows.proofs.Words.{Xid, Entry, Marked, Committed, Undone, Rolled, Plain, Refused, Recovered, Moved, Checkpointed, NotDone, Start, Past, same_xid, home_of, is_up, Deed, Changes, Locks, row_of, changes_of, standing, is_open, holds, Commit, entered, marked, history, sees, is_of, last_of, own_changes, stood, is_commit_by, is_mark, started_up_to, came_up, acked_up_to, Range, CommitIsProper, FoundIsSeen, EachSuffix, Record, Does, TakesBack, Commits, RollsBack, DeedAt, without, thread_of, scn_of, xid_of, stands, of_xid, Fresh, Active, Over, stage, Rising, FreeUnder, IsFree, on, deeds_in, committed_at, commit_of, logged, wrap_in, has_end, Board, Scan, IsLate, IsNote, MayOpen, MayStart, MayRead, MayChange, MayTakeBack, MayRoll, MaySettle, MayAnswer, MayAck, MayUp, MayJoin, put, after, entry_of, unread, anew, read_on, is_own, value_there, Sound, IsRead, RowsStand, ScanIsSeen, Answers, RowsAreLate, RecordIsIn, Sessions, Follows}
-use Rattle.board_rows.proofs.Lists.{tests, all_of, all_map, all_both, all_append, clash, suffix_here, suffix_map}
+use Rattle.board_rows.proofs.Lists.{cases, all_of, all_map, all_both, all_append, clash, suffix_here, suffix_map}
 use Rattle.board_rows.specs.Events
 use Rattle.board_rows.proofs.Table.{OneMore}
 use Rattle.board_rows.proofs.Order.{pair_without, same_xid-sym}
@@ -18,7 +19,7 @@ use Rattle.board_rows.proofs.SegmentSteps.{segments-changes, segments-back, segm
 use Rattle.board_rows.proofs.Owns.{under-up, under-committed-more, under-fresh-all}
 use Rattle.board_rows.proofs.LateSteps.{late-reads, late-raises, late-changes, late-back, late-marks, late-rolls, late-settles}
 use Rattle.board_rows.proofs.Look.{changes-free, own-is, live-new, live-low, look-sees, look-late, change-sees, OfRec, stands-from}
-use Rattle.board_rows.proofs.AnswerSteps.{each-read, scan-read, answers-same, settled-same, own-other, unread-seen, anew-at, scan-reads, by_own}
+use Rattle.board_rows.proofs.AnswerSteps.{each-read, scan-read, answers-same, settled-same, unread-seen, anew-at, scan-reads, by_own}
 use Rattle.board_rows.proofs.SessionSteps.{none-stood, some-stood, row-free, push-proper, push-answers, sessions-changes, sessions-ends, starts-starts, starts-acks, starts-proper, starts-joins, starts-ups}
 
 module _ (asked : ℕ → Option Range) (insts : ℕ) (b : Board) (sound : Sound asked insts b) where
@@ -55,7 +56,7 @@ module _ (asked : ℕ → Option Range) (insts : ℕ) (b : Board) (sound : Sound
       owns y x f o = suffix_map _ _ b.records (λ older. under-up told_at (started_up_to y b.past) _ x (stands older) (higher (y == z) s (started_up_to y b.past))) (sound.owns y x f o)
 
       reads_at : (y : ℕ) → (put b.scan z (unread s first) y).snapshot ≡ cond (y == z) (max s (started_up_to y b.past)) (started_up_to y b.past)
-      reads_at y = grind (arith, tests, start, sound.reads_at)
+      reads_at y = grind (arith, cases, start, sound.reads_at)
 
       scans : (y : ℕ) → Scanned b.floor y (put b.scan z (unread s first) y)
       scans = put-all (Scanned b.floor) b.scan z (unread s first) (unread-seen b.floor (history b.past) s first _) (λ y _. sound.answers.scans y)
@@ -90,7 +91,7 @@ module _ (asked : ℕ → Option Range) (insts : ℕ) (b : Board) (sound : Sound
   keeps-answers n z may = grind arith
 
   pub keeps-acks : (n c : ℕ) (x : Xid) → MayAck insts b n c x → Sound asked insts (after b (Events.acks n c x))
-  keeps-acks n c x may = grind (arith, tests, starts-acks, push-answers, push-proper, some-stood)
+  keeps-acks n c x may = grind (arith, cases, starts-acks, push-answers, push-proper, some-stood)
 
   drawn-at : (newer : List Record) (r : Record) (there : List Record) → b.records ≡ newer ++ r ∷ there → scn_of r ≤ b.clock (thread_of r)
   drawn-at newer r there place = (all_append (λ r. scn_of r ≤ b.clock (thread_of r)) newer (r ∷ there) (subst (AllByRecursion (λ r. scn_of r ≤ b.clock (thread_of r))) place sound.clocks.drawn)).1.0
@@ -164,10 +165,10 @@ module _ (asked : ℕ → Option Range) (insts : ℕ) (b : Board) (sound : Sound
       c = b.clock x.seg + 1
 
       unlogged : logged b.durable (Commits c x ∷ b.records) ≡ logged b.durable b.records
-      unlogged = grind (arith, tests, sound.clocks.lasts x.seg)
+      unlogged = grind (arith, cases, sound.clocks.lasts x.seg)
 
       below : (r : Record) → (is_open (xid_of r) b.past ≡ true → scn_of r ≤ b.clock (xid_of r).seg) → same_xid (xid_of r) x ≡ true → scn_of r < c
-      below r low same = grind (arith, tests)
+      below r low same = grind (arith, cases)
 
   pub keeps-rolls : (i : ℕ) (x : Xid) → MayRoll b i x → Sound asked insts (after b (Events.rolls i x))
   keeps-rolls i x may = assumption (
@@ -220,7 +221,7 @@ module _ (asked : ℕ → Option Range) (insts : ℕ) (b : Board) (sound : Sound
       a = record { commit_scn = c; inst = x.seg; xid = x; changes = marked x c b.past }
 
       more : OneMore x c told_at now
-      more = record { new = grind (arith, tests, (sound.txns.each x).commits, may.new, is); is = λ y. ap (λ (t : Bool). cond t (Some c) (committed_at y b.past)) (same_xid-sym y x) }
+      more = record { new = grind (arith, cases, (sound.txns.each x).commits, may.new, is); is = λ y. ap (λ (t : Bool). cond t (Some c) (committed_at y b.past)) (same_xid-sym y x) }
 
       owns : (z : ℕ) (y : Xid) → last_of z b.past ≡ Some y → is_open y b.past ≡ true → EachSuffix (λ older. FreeUnder now (started_up_to z b.past) y (stands older)) b.records
       owns z y f o = suffix_map _ _ b.records (λ older. under-committed-more x c told_at now (started_up_to z b.past) y (stands older) more) (sound.owns z y f o)
@@ -233,7 +234,7 @@ module _ (asked : ℕ → Option Range) (insts : ℕ) (b : Board) (sound : Sound
           ∙ (sym (logged-commit b.durable c x may.new newer there (subst Rising may.place sound.clocks.rising) may.first) ∙ ap (logged (put b.durable x.seg c)) (sym may.place)))
 
       one : (r : Record) → RecordIsIn b.records (λ y. is_open y b.past) r → OfRec (λ m. same_xid x m.xid ≡ true → m.scn < c) r
-      one r h = grind (arith, tests, is)
+      one r h = grind (arith, cases, is)
 
       below : AllByRecursion (λ m. same_xid x m.xid ≡ true → m.scn < c) (stands b.records)
       below = stands-from _ b.records (all_map _ _ b.records one sound.txns.each_record)
@@ -286,7 +287,7 @@ module _ (asked : ℕ → Option Range) (insts : ℕ) (b : Board) (sound : Sound
     change-new = goes-new sound.txns x goes
 
     late-one : (m : DeedAt) → IsFree told_at s x (row_of deed) m → on (row_of deed) m ≡ true → committed_at m.xid b.past ≡ None → IsLate s (live m.xid) (cond (same_xid m.xid x) Active (stage m.xid b.records)) (scn m.xid.seg)
-    late-one m free a new = grind (arith, tests, may.low, change-new)
+    late-one m free a new = grind (arith, cases, may.low, change-new)
 
     change-late : RowsAreLate recs scn floor live told_at
     change-late =
@@ -302,18 +303,12 @@ module _ (asked : ℕ → Option Range) (insts : ℕ) (b : Board) (sound : Sound
     -- what the other sessions read
     -- a transaction of another session is another
     differ : (y : ℕ) (w : Xid) → (z == y) ≡ false → last_of y b.past ≡ Some w → same_xid w x ≡ false
-    differ y w off e = grind (arith, tests, mine, sound.sessions.single z y x, sound.sessions.used y x)
+    differ y w off e = grind (arith, cases, mine, sound.sessions.single z y x, sound.sessions.used y x)
 
     -- what the other sessions read
     change-scans : (now : Past) → ((y : ℕ) → last_of y now ≡ cond (is_of y n b.past) (Some x) (last_of y b.past)) → ((y : Xid) → same_xid y x ≡ false → (is_open y now ≡ is_open y b.past) × (standing y now ≡ standing y b.past))
         → (y : ℕ) → ScanIsSeen floor (put b.scan z (unread (b.scan z).snapshot (b.scan z).first) y) (by_own b.floor (history b.past) (own_changes y now))
-    change-scans now last other =
-        put-all (λ y scan. ScanIsSeen floor scan (by_own b.floor (history b.past) (own_changes y now))) b.scan z _
-        (unread-seen floor (history b.past) (b.scan z).snapshot (b.scan z).first (by_own b.floor (history b.past) (own_changes z now)))
-        (λ y off. subst (λ own. ScanIsSeen floor (b.scan y) (by_own b.floor (history b.past) own)) (sym (same y off)) (scan-read b.floor floor change-rises (b.scan y) _ (sound.answers.scans y)))
-      where
-        same : (y : ℕ) → (z == y) ≡ false → own_changes y now ≡ own_changes y b.past
-        same y off = own-other b.past now y (last y ∙ rw may.started (rw off refl)) (λ w e. other w (differ y w off e))
+    change-scans now last other = grind (arith, cases)
 
     mine-wrap : (stage x b.records ≡ Active) ⊎ (x.wrap ≡ suc (wrap_in x.seg x.slot b.records))
     mine-wrap = elim may.mine [ inl o ↦ inl ((sound.txns.each x).active (own-is z x b.past o).1) | inr o ↦ inr o.2 ]
@@ -343,7 +338,7 @@ module _ (asked : ℕ → Option Range) (insts : ℕ) (b : Board) (sound : Sound
     reads_at = put-all (λ y scan. scan.snapshot ≡ started_up_to y b.past) b.scan z _ (sound.reads_at z) (λ y _. sound.reads_at y)
 
     change-answers : Answers asked floor b.scan b.past (history b.past)
-    change-answers = grind (arith, tests, each-read, change-rises, scan-read)
+    change-answers = grind (arith, cases, each-read, change-rises, scan-read)
 
   pub keeps-changes : (n z s : ℕ) (x : Xid) (seq : ℕ) (deed : Deed) → MayChange b n z s x seq deed → Sound asked insts (after b (Events.changes n z s x seq deed))
   keeps-changes n z s x seq (Changes change) may = assumption (
@@ -395,13 +390,13 @@ module _ (asked : ℕ → Option Range) (insts : ℕ) (b : Board) (sound : Sound
   )
     where
       knows : (j : ℕ) → put b.known i known j ≤ put b.clock i c j
-      knows j = grind (arith, tests, sound.clocks.knows j, may.low)
+      knows j = grind (arith, cases, sound.clocks.knows j, may.low)
 
       drawn : (r : Record) → scn_of r ≤ b.clock (thread_of r) → (thread_of r ≡ i → scn_of r ≤ c) → scn_of r ≤ put b.clock i c (thread_of r)
-      drawn r le low = grind (arith, tests)
+      drawn r le low = grind (arith, cases)
 
       late : (s : ℕ) (y : Xid) → IsLate s (is_open y b.past) (stage y b.records) (b.clock y.seg) → IsLate s (is_open y b.past) (stage y b.records) (put b.clock i c y.seg)
-      late s y h = grind (arith, tests, sound.segments.lives y, may.down)
+      late s y h = grind (arith, cases, sound.segments.lives y, may.down)
 
       lates : RowsAreLate b.records (put b.clock i c) b.floor (λ x. is_open x b.past) told_at
       lates = all_map _ _ (stands b.records) (λ m h new. late (b.floor (row_of m.deed)) m.xid (h new)) sound.late

@@ -2,7 +2,7 @@
 use Rattle.std.proofs.Common.{filter, ◌≡◌, ◌≢◌, ℕ, ◌≤◌, Bool, true, false, cond, ◌==◌, List, [], ◌∷◌, refl, sym, ap, ◌∙◌, subst, arith, Option, Some, None}
 use Rattle.std.specs.List.{AllByRecursion}
 use Rattle.board_rows.proofs.Words.{Xid, Past, same_xid, home_of, row_of, changes_of, standing, is_open, Commit, history, is_home, last_of, own_changes, started_up_to, Range, same_xid-true, EachSuffix, Record, Does, TakesBack, Commits, RollsBack, DeedAt, thread_of, scn_of, xid_of, touches, stands, of_xid, Stage, Fresh, Active, Over, stage, FreeUnder, deeds_in, committed_at, seen_at, IsMade, logged, Board, Loss, Crash, Fault, IsLate, MayLose, after, anew, is_kept, Sound, Clocks, Sessions, RowsStand, RowsAreLate, ScanIsSeen, EndsBy, CanCommit, RecordIsIn, Crashed, Ended}
-use Rattle.board_rows.proofs.Lists.{all_map, clash, all_filter, tests, pair_filter, all_of}
+use Rattle.board_rows.proofs.Lists.{all_map, clash, all_filter, cases, pair_filter, all_of}
 use Rattle.board_rows.specs.Events
 use Rattle.board_rows.proofs.AnswerSteps.{anew-at, by_own}
 use Rattle.board_rows.proofs.SessionSteps.{starts-loses}
@@ -19,7 +19,7 @@ all-by_xid P [] h = tt
 all-by_xid P (m ∷ mods) h = (first (h m.xid), all-by_xid P mods (λ x. rest x (h x)))
   where
     first : AllByRecursion P (of_xid m.xid (m ∷ mods)) → P m
-    first g = grind (arith, tests)
+    first g = grind (arith, cases)
 
     rest : (x : Xid) → AllByRecursion P (of_xid x (m ∷ mods)) → AllByRecursion P (of_xid x mods)
     rest x g = grind arith
@@ -90,7 +90,7 @@ module _ (asked : ℕ → Option Range) (insts : ℕ) (b : Board) (sound : Sound
       same x all h = subst (AllByRecursion Late) (sym (of_xid-kept i kept x b.records all)) (all_map _ Late (of_xid x (stands b.records)) one (all_filter WasLate (λ m. same_xid x m.xid) (stands b.records) sound.late))
         where
           one : (m : DeedAt) → (same_xid x m.xid ≡ true) × WasLate m → Late m
-          one m g new = grind (arith, tests, h (b.floor (row_of m.deed)) (b.clock x.seg))
+          one m g new = grind (arith, cases, h (b.floor (row_of m.deed)) (b.clock x.seg))
 
       live-late : (x : Xid) → live x ≡ true → AllByRecursion Late (of_xid x (stands there))
       live-late x l = let all : AllKept i kept x b.records = live-kept sound.txns i kept may.durable under x (grind arith) (grind arith) in same x all (λ s clock h. grind (arith, stage-kept i kept x b.records all))

@@ -2,7 +2,7 @@
 use Rattle.std.proofs.Common.{◌≡◌, ℕ, ◌<◌, ◌≤◌, Bool, true, false, cond, max, List, [], ◌∷◌, arith, ◌⊎◌, Option, Some, None}
 use Rattle.std.specs.List.{AllByRecursion}
 use Rattle.board_rows.proofs.Words.{Xid, same_xid, Deed, row_of, same_xid-refl, Record, Does, TakesBack, Commits, RollsBack, DeedAt, stands, Fresh, Active, Over, stage, on, put, IsLate, RowsAreLate}
-use Rattle.board_rows.proofs.Lists.{all_map, all_both, tests}
+use Rattle.board_rows.proofs.Lists.{all_map, all_both, cases}
 use Rattle.board_rows.proofs.Order.{all_without}
 
 -- what stands is of a transaction with a record
@@ -14,7 +14,7 @@ all-used [] = tt
 all-used (Does c x seq d ∷ recs) = (first, all_map _ _ (stands recs) (used-more (Does c x seq d) recs) (all-used recs))
   where
     first : stage x (Does c x seq d ∷ recs) ≡ Fresh → ⊥
-    first e = grind (arith, tests)
+    first e = grind (arith, cases)
 all-used (TakesBack i c x seq row ∷ recs) = all_without _ x seq row (stands recs) (all-used recs)
 all-used (Commits c x ∷ recs) = all_map _ _ (stands recs) (used-more (Commits c x) recs) (all-used recs)
 all-used (RollsBack i c x ∷ recs) = all_map _ _ (stands recs) (used-more (RollsBack i c x) recs) (all-used recs)
@@ -29,7 +29,7 @@ module _ (recs : List Record) (scn floor : ℕ → ℕ) (live : Xid → Bool) (c
   late-reads k s here old = all_both _ _ _ (stands recs) one here old
     where
       one : (m : DeedAt) → (on k m ≡ true → committed m.xid ≡ None → IsLate s (live m.xid) (stage m.xid recs) (scn m.xid.seg)) → Late m → committed m.xid ≡ None → IsLate (put floor k (max (floor k) s) (row_of m.deed)) (live m.xid) (stage m.xid recs) (scn m.xid.seg)
-      one m h l new = grind (arith, tests)
+      one m h l new = grind (arith, cases)
 
   -- clocks rise, and the rest stays
   pub late-raises : (now : ℕ → ℕ) → ((j : ℕ) → scn j ≤ now j) → RowsAreLate recs scn floor live committed → RowsAreLate recs now floor live committed
@@ -44,7 +44,7 @@ module _ (recs : List Record) (scn floor : ℕ → ℕ) (live : Xid → Bool) (c
   late-changes c x seq deed goes above old = ((λ new. rw (same_xid-refl x) (λ e. above)), all_both _ _ _ (stands recs) one (all-used recs) old)
     where
       one : (m : DeedAt) → (stage m.xid recs ≡ Fresh → ⊥) → Late m → committed m.xid ≡ None → IsLate (floor (row_of m.deed)) (cond (same_xid m.xid x) true (live m.xid)) (cond (same_xid m.xid x) Active (stage m.xid recs)) (scn m.xid.seg)
-      one m used h new = grind (arith, tests)
+      one m used h new = grind (arith, cases)
 
   pub late-back : (i c : ℕ) (x : Xid) (seq row : ℕ) → RowsAreLate recs scn floor live committed → RowsAreLate (TakesBack i c x seq row ∷ recs) scn floor live committed
   late-back i c x seq row old = all_without Late x seq row (stands recs) old
@@ -55,13 +55,13 @@ module _ (recs : List Record) (scn floor : ℕ → ℕ) (live : Xid → Bool) (c
   late-marks c x is act above = all_map _ _ (stands recs) one
     where
       one : (m : DeedAt) → Late m → committed m.xid ≡ None → IsLate (floor (row_of m.deed)) (cond (same_xid m.xid x) false (live m.xid)) (cond (same_xid m.xid x) (Over (Some c)) (stage m.xid recs)) (scn m.xid.seg)
-      one m h new = grind (arith, tests)
+      one m h new = grind (arith, cases)
 
   pub late-rolls : (i c : ℕ) (x : Xid) → RowsAreLate recs scn floor live committed → RowsAreLate (RollsBack i c x ∷ recs) scn floor (λ y. cond (same_xid y x) false (live y)) committed
   late-rolls i c x = all_map _ _ (stands recs) one
     where
       one : (m : DeedAt) → Late m → committed m.xid ≡ None → IsLate (floor (row_of m.deed)) (cond (same_xid m.xid x) false (live m.xid)) (cond (same_xid m.xid x) (Over None) (stage m.xid recs)) (scn m.xid.seg)
-      one m h new = grind (arith, tests)
+      one m h new = grind (arith, cases)
 
   -- more commits are in the journal
   pub late-settles : (now : Xid → Option ℕ) → ((y : Xid) → now y ≡ None → committed y ≡ None) → RowsAreLate recs scn floor live committed → RowsAreLate recs scn floor live now

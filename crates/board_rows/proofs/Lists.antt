@@ -17,7 +17,7 @@ same_xid_tells x y = by (same_xid x y) refl
     by true e = inl (e, same_xid-true x y e)
     by false e = inr (e, λ f. (let t : same_xid x y ≡ true = rw f (same_xid-refl y) in clash (same_xid x y) t e))
 
-pub ruleset tests = (nat_tests, same_xid_tells)
+pub ruleset cases = (nat_tests, same_xid_tells)
 
 pub all_of : {X : Type 0} (P : X → Type 0) (xs : List X) → ((x : X) → P x) → AllByRecursion P xs
 all_of P [] f = tt

@@ -3,7 +3,7 @@ use Rattle.std.proofs.Common.{◌≡◌, ◌≢◌, ℕ, ◌<◌, ◌≤◌, Boo
 use Rattle.std.specs.List.{AllByRecursion, filter}
 use Rattle.std.proofs.lemmas.Bool.Decides.{nat_tests}
 use Rattle.board_rows.proofs.Words.{Xid, Commit, entered, same_xid-refl, Record, Does, TakesBack, Commits, RollsBack, thread_of, scn_of, stands, of_xid, Over, stage, Rising, commit_of, logged, put, Follows}
-use Rattle.board_rows.proofs.Lists.{tests, all_map, all_append}
+use Rattle.board_rows.proofs.Lists.{cases, all_map, all_append}
 use Rattle.board_rows.proofs.ClockSteps.{put-here}
 use Rattle.board_rows.proofs.TxnSteps.{stops}
 use Rattle.board_rows.proofs.TxnSettles.{IsPlaced}
@@ -11,8 +11,8 @@ use Rattle.board_rows.proofs.Losses.{after-of_xid, after-stage, Kept, AllKept, l
 
 -- commits of two instances enter in either order
 pub entered-swap : (a b : Commit) → a.inst ≢ b.inst → (commits : List Commit) → entered a (entered b commits) ≡ entered b (entered a commits)
-entered-swap a b differ [] = grind (arith, tests)
-entered-swap a b differ (d ∷ commits) = grind (arith, tests, entered-swap a b differ commits)
+entered-swap a b differ [] = grind (arith, cases)
+entered-swap a b differ (d ∷ commits) = grind (arith, cases, entered-swap a b differ commits)
 
 -- a commit's record is on the disk before as after
 abbrev SameDurable : (ℕ → ℕ) → (ℕ → ℕ) → Record → Type 0
@@ -41,7 +41,7 @@ module _ (durable : ℕ → ℕ) (r : Record) (new : durable (thread_of r) < scn
 -- after its commit nothing changes of a transaction
 pub stands-over : (c : ℕ) (x : Xid) (newer there : List Record) → Follows (newer ++ Commits c x ∷ there) → (stage x (newer ++ Commits c x ∷ there) ≡ Over (Some c)) × (of_xid x (stands (newer ++ Commits c x ∷ there)) ≡ of_xid x (stands there))
 stands-over c x [] there f = (rw (same_xid-refl x) refl, refl)
-stands-over c x (o ∷ newer) there f = grind (arith, tests, stops, after-stage, after-of_xid, stands-over c x newer there f.1)
+stands-over c x (o ∷ newer) there f = grind (arith, cases, stops, after-stage, after-of_xid, stands-over c x newer there f.1)
 
 module _ (durable : ℕ → ℕ) (c : ℕ) (x : Xid) (new : durable x.seg < c) where
   abbrev now2 : ℕ → ℕ
@@ -80,4 +80,4 @@ module _ (i kept : ℕ) (durable : ℕ → ℕ) (lasts : durable i ≤ kept) (P 
 
   pub logged-loses : (recs : List Record) → ((x : Xid) → P x → AllKept i kept x recs) → AllByRecursion IsTold recs → logged durable (filter (Kept i kept) recs) ≡ logged durable recs
   logged-loses [] whole told = refl
-  logged-loses (r ∷ recs) whole told = grind (arith, tests, Kept, AllKept, of_xid-kept, lost-is, logged-loses recs (λ x p. (whole x p).1) told.1)
+  logged-loses (r ∷ recs) whole told = grind (arith, cases, Kept, AllKept, of_xid-kept, lost-is, logged-loses recs (λ x p. (whole x p).1) told.1)

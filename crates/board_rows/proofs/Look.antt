@@ -4,7 +4,7 @@ use Rattle.std.specs.Option.{option_map_or}
 use Rattle.std.specs.List.{AllByRecursion}
 use Rattle.std.proofs.lemmas.List.Elements.{filter-append}
 use Rattle.board_rows.proofs.Words.{Xid, Past, same_xid, Deed, row_of, changes_of, standing, is_open, history, changes_up_to, value_by, sees, own, last_of, started_up_to, Range, Record, Does, DeedAt, thread_of, scn_of, xid_of, touches, stands, Fresh, Active, stage, durable_commit, wrap_in, FreeUnder, IsFree, on, shown, on_row, deeds_in, committed_at, seen_at, Ordered, Board, IsLateHere, is_own, MayLook, MayChange, value_there, Sound, RecordIsIn}
-use Rattle.board_rows.proofs.Lists.{all_pair, tests, all_map, all_both, all_append, suffix_here}
+use Rattle.board_rows.proofs.Lists.{all_pair, cases, all_map, all_both, all_append, suffix_here}
 use Rattle.board_rows.proofs.Shown.{shown-alike, shown-later, shown-none, on_row-shown}
 use Rattle.board_rows.proofs.Order.{all-seen, all_without}
 use Rattle.board_rows.proofs.Replay.{value-on_row, value-same, own-first}
@@ -22,12 +22,12 @@ OfRec P _ = Unit {0}
 
 stands-since : (P : DeedAt → Type 0) (newer there : List Record) → AllByRecursion P (stands there) → AllByRecursion (OfRec P) newer → AllByRecursion P (stands (newer ++ there))
 stands-since P [] there h n = h
-stands-since P (r ∷ newer) there h n = grind (arith, tests, all_without, stands-since P newer)
+stands-since P (r ∷ newer) there h n = grind (arith, cases, all_without, stands-since P newer)
 
 -- what holds of each change holds of what stands
 pub stands-from : (P : DeedAt → Type 0) (recs : List Record) → AllByRecursion (OfRec P) recs → AllByRecursion P (stands recs)
 stands-from P [] n = tt
-stands-from P (r ∷ recs) n = grind (arith, tests, all_without, stands-from P recs)
+stands-from P (r ∷ recs) n = grind (arith, cases, all_without, stands-from P recs)
 
 module _ (asked : ℕ → Option Range) (insts : ℕ) (b : Board) (sound : Sound asked insts b) where
   abbrev pub com_at : Xid → Option ℕ
@@ -78,7 +78,7 @@ module _ (asked : ℕ → Option Range) (insts : ℕ) (b : Board) (sound : Sound
     hidden = all_both _ _ _ newer one look.later ends
       where
         one : (r : Record) → IsLater r → RecordIsIn b.records (λ x. is_open x b.past) r → touches k r ≡ true → Seen (xid_of r) ≡ false
-        one r later e t = grind (arith, tests, sound.txns.each (xid_of r))
+        one r later e t = grind (arith, cases, sound.txns.each (xid_of r))
 
     abbrev IsTold : DeedAt → Type 0
     IsTold m = on k m ≡ true → (is_own (own z b.past) m.xid ≡ true) ⊎ ((status m.xid ≡ seen_at s com_at m.xid) × IsLateHere b s m.xid)
@@ -108,7 +108,7 @@ module _ (asked : ℕ → Option Range) (insts : ℕ) (b : Board) (sound : Sound
         old m told a new = grind (arith, own-low m.xid)
 
         since : (r : Record) → IsLater r → RecordIsIn b.records (λ x. is_open x b.past) r → (is_open (xid_of r) b.past ≡ true → scn_of r ≤ b.clock (xid_of r).seg) → OfRec IsLateOn r
-        since r later e low = grind (arith, tests)
+        since r later e low = grind (arith, cases)
 
   -- a change is a look at the row as it stands
   module _ (n z s : ℕ) (x : Xid) (seq : ℕ) (deed : Deed) (may : MayChange b n z s x seq deed) where
@@ -116,7 +116,7 @@ module _ (asked : ℕ → Option Range) (insts : ℕ) (b : Board) (sound : Sound
     low-deeds = stands-from (IsUnder com_at) b.records (all_map _ _ b.records one sound.txns.each_record)
       where
         one : (r : Record) → RecordIsIn b.records (λ y. is_open y b.past) r → OfRec (IsUnder com_at) r
-        one r h = grind (arith, tests, sound.txns.each (xid_of r))
+        one r h = grind (arith, cases, sound.txns.each (xid_of r))
 
     under : FreeUnder com_at s x (stands b.records)
     under = elim may.mine [
@@ -135,7 +135,7 @@ module _ (asked : ℕ → Option Range) (insts : ℕ) (b : Board) (sound : Sound
     told = all_both _ _ _ (stands b.records) one (all-used b.records) changes-free
       where
         one : (m : DeedAt) → (stage m.xid b.records ≡ Fresh → ⊥) → IsFree com_at s x (row_of deed) m → IsTold2 m
-        one m used free a = grind (arith, tests, may.mine)
+        one m used free a = grind (arith, cases, may.mine)
 
     pub looks : MayLook b z x.seg s (row_of deed) [] b.records (seen_at s com_at)
     looks = record { home = may.home; low = may.low; image = refl; later = tt; told = told }
@@ -151,7 +151,7 @@ module _ (asked : ℕ → Option Range) (insts : ℕ) (b : Board) (sound : Sound
         ∙ seen-value z s (row_of deed)
       where
         none : (m : DeedAt) → (stage m.xid b.records ≡ Fresh → ⊥) → stage x b.records ≡ Fresh → on (row_of deed) m ≡ true → same_xid x m.xid ≡ false
-        none m used f a = grind (arith, tests)
+        none m used f a = grind (arith, cases)
 
         whose : (own z b.past ≡ Some x) ⊎ ((own z b.past ≡ None) × (stage x b.records ≡ Fresh) × (x.wrap ≡ suc (wrap_in x.seg x.slot b.records))) → shown (row_of deed) (λ y. same_xid x y || seen_at s com_at y) (stands b.records) ≡ shown (row_of deed) (λ y. is_own (own z b.past) y || seen_at s com_at y) (stands b.records)
         whose (inl o) = rw o refl

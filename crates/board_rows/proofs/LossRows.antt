@@ -2,7 +2,7 @@
 use Rattle.std.proofs.Common.{◌≡◌, ℕ, Bool, true, false, cond, ◌==◌, List, [], ◌∷◌, refl, sym, ap, ◌∙◌, subst, inl, arith, Option}
 use Rattle.std.specs.List.{AllByRecursion, filter}
 use Rattle.board_rows.proofs.Words.{Xid, Change, row_of, changes_of, value_by, Replays, Record, DeedAt, xid_of, touches, without, stands_after, stands, EachSuffix, FreeUnder, on, shown, on_row, deeds_in, Ordered, is_kept, AreNear, EachPair}
-use Rattle.board_rows.proofs.Lists.{tests, pair_filter, all_map, clash}
+use Rattle.board_rows.proofs.Lists.{cases, pair_filter, all_map, clash}
 use Rattle.board_rows.proofs.Shown.{shown-later}
 use Rattle.board_rows.proofs.Order.{pair_from}
 use Rattle.board_rows.proofs.Replay.{value-on_row}
@@ -22,14 +22,14 @@ without-on k x seq row (m ∷ mods) h = grind (arith, without-on k x seq row mod
 
 -- a record goes by what stands on its row, and leaves other rows
 after-same : (k : ℕ) (r : Record) (xs ys : List DeedAt) → mods_on k xs ≡ mods_on k ys → mods_on k (stands_after r xs) ≡ mods_on k (stands_after r ys)
-after-same k r xs ys e = grind (arith, tests, without-other, without-on)
+after-same k r xs ys e = grind (arith, cases, without-other, without-on)
 
 after-other : (k : ℕ) (r : Record) (xs : List DeedAt) → touches k r ≡ false → mods_on k (stands_after r xs) ≡ mods_on k xs
-after-other k r xs e = grind (arith, tests, without-other)
+after-other k r xs e = grind (arith, cases, without-other)
 
 Replays-on : (k : ℕ) (changes : List Change) → Replays changes → Replays (on_row k changes)
 Replays-on k [] h = tt
-Replays-on k (change ∷ older) h = grind (arith, tests, value-on_row, Replays-on k older h.1)
+Replays-on k (change ∷ older) h = grind (arith, cases, value-on_row, Replays-on k older h.1)
 
 Replays-from : (changes : List Change) → ((k : ℕ) → Replays (on_row k changes)) → Replays changes
 Replays-from [] h = tt
@@ -39,7 +39,7 @@ Replays-from (change ∷ older) h = (head (h change.row), Replays-from older (λ
     tail k g = grind arith
 
     head : Replays (on_row change.row (change ∷ older)) → change.found ≡ value_by older change.row
-    head g = grind (arith, tests, value-on_row)
+    head g = grind (arith, cases, value-on_row)
 
 on_row-mods : (k : ℕ) (mods : List DeedAt) → on_row k (changes_of (deeds_in mods)) ≡ changes_of (deeds_in (mods_on k mods))
 on_row-mods k [] = refl
@@ -57,7 +57,7 @@ module _ (i kept : ℕ) where
   -- a row of which every record is kept
   row-kept : (k : ℕ) (recs : List Record) → AllByRecursion (λ o. touches k o ≡ true → is_kept i kept o ≡ true) recs → mods_on k (stands (filter (Kept i kept) recs)) ≡ mods_on k (stands recs)
   row-kept k [] h = refl
-  row-kept k (r ∷ recs) h = grind (arith, tests, Kept, after-same, after-other, row-kept k recs h.1)
+  row-kept k (r ∷ recs) h = grind (arith, cases, Kept, after-same, after-other, row-kept k recs h.1)
 
   -- each row is as it was on an earlier board
   row-before : (P : List Record → Type 0) (k : ℕ) (recs : List Record) → KeepsUnder i kept recs → EachSuffix P recs → (older : List Record) × P older × (mods_on k (stands (filter (Kept i kept) recs)) ≡ mods_on k (stands older))

@@ -2,7 +2,7 @@
 use Rattle.std.proofs.Common.{◌≡◌, ℕ, ◌≤◌, Bool, true, false, cond, ◌==◌, List, [], arith, Option, Some, None}
 use Rattle.std.specs.List.{filter}
 use Rattle.board_rows.proofs.Words.{Xid, same_xid, Change, Deed, Record, Commits, xid_of, stands, of_xid, Fresh, Over, stage, deeds_in, Txns, TxnAgrees, RecordIsIn}
-use Rattle.board_rows.proofs.Lists.{tests, all_map, all_filter}
+use Rattle.board_rows.proofs.Lists.{cases, all_map, all_filter}
 use Rattle.board_rows.proofs.Losses.{KeepsUnder, fresh-none, Kept, AllKept, stage-kept, of_xid-kept, own-other, fresh-kept, over-kept, ended-whole, commit-whole, follows-kept}
 
 module _ {recs : List Record} {durable : ℕ → ℕ} {stand : Xid → List Deed} {live : Xid → Bool} {mark : Xid → ℕ → List Change} {has_mark : Xid → ℕ → Bool} {committed : Xid → Option ℕ} {has_commit : ℕ → ℕ → Bool}
@@ -27,7 +27,7 @@ module _ {recs : List Record} {durable : ℕ → ℕ} {stand : Xid → List Deed
   live-kept y is off = all_map _ _ recs one txns.each_record
     where
       one : (r : Record) → RecordIsIn recs live r → same_xid y (xid_of r) ≡ true → Kept i kept r ≡ true
-      one r h e = grind (arith, tests, txns.each y)
+      one r h e = grind (arith, cases, txns.each y)
 
   -- a commit that is there after the loss was there before, with all its transaction's records
   pub over-before : (y : Xid) (c : ℕ) → stage y there ≡ Over (Some c) → (stage y recs ≡ Over (Some c)) × AllKept i kept y recs
@@ -46,7 +46,7 @@ module _ {recs : List Record} {durable : ℕ → ℕ} {stand : Xid → List Deed
   }
     where
       each : (y : Xid) → TxnAgrees (stage y there) (deeds_in (of_xid y (stands there))) (cond (y.seg == i) [] (stand y)) (cond (y.seg == i) false (live y)) (mark y) (has_mark y) (committed y) (durable y.seg)
-      each y = grind (arith, tests, txns.each y, live-kept y, fresh-before y, over-before y, commit-kept y, durable-kept y, stage-kept i kept y recs, of_xid-kept i kept y recs, fresh-none y there, fresh-none y recs, ended-whole i kept y None recs newest txns.follows, over-kept i kept y None recs txns.follows)
+      each y = grind (arith, cases, txns.each y, live-kept y, fresh-before y, over-before y, commit-kept y, durable-kept y, stage-kept i kept y recs, of_xid-kept i kept y recs, fresh-none y there, fresh-none y recs, ended-whole i kept y None recs newest txns.follows, over-kept i kept y None recs txns.follows)
 
       one : (r : Record) → Kept i kept r ≡ true → RecordIsIn recs live r → RecordIsIn there (λ y. cond (y.seg == i) false (live y)) r
-      one r k h = grind (arith, tests, txns.each (xid_of r), stage-kept i kept (xid_of r) recs, commit-kept (xid_of r), over-before (xid_of r))
+      one r k h = grind (arith, cases, txns.each (xid_of r), stage-kept i kept (xid_of r) recs, commit-kept (xid_of r), over-before (xid_of r))

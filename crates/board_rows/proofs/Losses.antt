@@ -1,10 +1,11 @@
 -- What a loss leaves of the board.
+use Rattle.board_rows.proofs.Lists.{cases}
 use Rattle.std.proofs.Common.{◌≡◌, ◌≢◌, ℕ, ◌<◌, ◌≤◌, Bool, true, false, ◌==◌, leb, List, [], ◌∷◌, refl, sym, ◌∙◌, arith, inr, Option, Some}
 use Rattle.std.specs.List.{AllByRecursion, filter}
 use Rattle.std.proofs.lemmas.Bool.{eq-eqb, eqb-true}
 use Rattle.std.proofs.lemmas.Bool.Decides.{nat_tests}
-use Rattle.board_rows.proofs.Words.{Xid, same_xid, same_xid-true, EachPair, Record, Commits, DeedAt, thread_of, scn_of, xid_of, without, stands_after, Does, TakesBack, RollsBack, stands, of_xid, Fresh, Over, stage, Rising, is_kept, AreNear, LosesNewest, Follows}
-use Rattle.board_rows.proofs.Lists.{tests, pair_both, pair_filter, all_map, all_of, clash}
+use Rattle.board_rows.proofs.Words.{Xid, same_xid, same_xid-true, EachPair, Record, Commits, DeedAt, thread_of, scn_of, xid_of, without, stands_after, stands, of_xid, Fresh, Over, stage, Rising, is_kept, AreNear, LosesNewest, Follows}
+use Rattle.board_rows.proofs.Lists.{cases, pair_both, pair_filter, all_map, all_of, clash}
 use Rattle.board_rows.proofs.RowSteps.{of_xid-without}
 use Rattle.board_rows.proofs.TxnSteps.{stops}
 use Rattle.board_rows.proofs.LateSteps.{all-used}
@@ -18,11 +19,11 @@ fresh-none x recs e = go (stands recs) (all-used recs)
   where
     go : (mods : List DeedAt) → AllByRecursion (λ m. stage m.xid recs ≡ Fresh → ⊥) mods → of_xid x mods ≡ []
     go [] h = refl
-    go (m ∷ mods) h = grind (arith, tests, go mods)
+    go (m ∷ mods) h = grind (arith, cases, go mods)
 
 -- a record of another changes nothing of a transaction
 pub after-of_xid : (x : Xid) (r : Record) (mods : List DeedAt) → same_xid x (xid_of r) ≡ false → of_xid x (stands_after r mods) ≡ of_xid x mods
-after-of_xid x r mods e = grind (arith, tests, of_xid-without)
+after-of_xid x r mods e = grind (arith, cases, of_xid-without)
 
 pub after-stage : (x : Xid) (r : Record) (recs : List Record) → same_xid x (xid_of r) ≡ false → stage x (r ∷ recs) ≡ stage x recs
 after-stage x r recs e = grind arith
@@ -81,7 +82,7 @@ module _ (i kept : ℕ) where
 
   pub of_xid-kept : (x : Xid) (recs : List Record) → AllKept x recs → of_xid x (stands (filter Kept recs)) ≡ of_xid x (stands recs)
   of_xid-kept x [] h = refl
-  of_xid-kept x (r ∷ recs) h = grind (arith, tests, of_xid-without, of_xid-back, after-of_xid, lost-other, of_xid-kept x recs h.1)
+  of_xid-kept x (r ∷ recs) h = grind (arith, cases, of_xid-without, of_xid-back, after-of_xid, lost-other, of_xid-kept x recs h.1)
 
   -- the records of a transaction in its own thread are kept
   abbrev pub OwnKept : Xid → List Record → Type 0
@@ -92,15 +93,12 @@ module _ (i kept : ℕ) where
 
   pub fresh-kept : (x : Xid) (recs : List Record) → Follows recs → OwnKept x recs → stage x (filter Kept recs) ≡ Fresh → stage x recs ≡ Fresh
   fresh-kept x [] f h e = refl
-  fresh-kept x (Does c y seq d ∷ recs) f h e = grind (arith, tests, fresh-kept x recs f.1 h.1)
-  fresh-kept x (TakesBack j c y seq row ∷ recs) f h e = grind (arith, tests, fresh-kept x recs f.1 h.1)
-  fresh-kept x (Commits c y ∷ recs) f h e = grind (arith, tests, fresh-kept x recs f.1 h.1)
-  fresh-kept x (RollsBack j c y ∷ recs) f h e = grind (arith, tests, fresh-kept x recs f.1 h.1)
+  fresh-kept x (r ∷ recs) f h e = grind (arith, fresh-kept x recs)
 
   -- an end that is there after the loss was there before
   pub over-kept : (x : Xid) (o : Option ℕ) (recs : List Record) → Follows recs → stage x (filter Kept recs) ≡ Over o → stage x recs ≡ Over o
   over-kept x o [] f e = (cc)
-  over-kept x o (r ∷ recs) f e = grind (arith, tests, over-kept x o recs f.1)
+  over-kept x o (r ∷ recs) f e = grind (arith, cases, over-kept x o recs f.1)
 
   -- under a record that is kept all of its transaction is kept
   near-xid : (x : Xid) (r : Record) (recs : List Record) → same_xid x (xid_of r) ≡ true → Kept r ≡ true → AllByRecursion (λ o. Kept r ≡ true → AreNear r o → Kept o ≡ true) recs → AllKept x recs
@@ -109,15 +107,15 @@ module _ (i kept : ℕ) where
   -- all records of a transaction whose end is kept are kept
   pub ended-whole : (x : Xid) (o : Option ℕ) (recs : List Record) → KeepsUnder i kept recs → Follows recs → stage x (filter Kept recs) ≡ Over o → AllKept x recs
   ended-whole x o [] l f e = tt
-  ended-whole x o (r ∷ recs) l f e = grind (arith, tests, near-xid, after-stage, stops, over-kept, ended-whole x o recs l.1 f.1)
+  ended-whole x o (r ∷ recs) l f e = grind (arith, cases, near-xid, after-stage, stops, over-kept, ended-whole x o recs l.1 f.1)
 
   pub commit-whole : (x : Xid) (c : ℕ) (recs : List Record) → KeepsUnder i kept recs → Follows recs → stage x recs ≡ Over (Some c) → Kept (Commits c x) ≡ true → AllKept x recs
   commit-whole x c [] l f e k = tt
-  commit-whole x c (r ∷ recs) l f e k = grind (arith, tests, after-stage, stops, near-xid, commit-whole x c recs)
+  commit-whole x c (r ∷ recs) l f e k = grind (arith, cases, after-stage, stops, near-xid, commit-whole x c recs)
 
   pub follows-kept : (recs : List Record) → KeepsUnder i kept recs → Follows recs → Follows (filter Kept recs)
   follows-kept [] l f = tt
-  follows-kept (r ∷ recs) l f = grind (arith, tests, stage-kept (xid_of r) recs, near-xid (xid_of r) r recs, follows-kept recs)
+  follows-kept (r ∷ recs) l f = grind (arith, cases, stage-kept (xid_of r) recs, near-xid (xid_of r) r recs, follows-kept recs)
 
   pub rising-kept : (recs : List Record) → Rising recs → Rising (filter Kept recs)
   rising-kept = pair_filter _ Kept

@@ -3,7 +3,7 @@ use Rattle.std.proofs.Common.{◌≡◌, ◌≢◌, ℕ, suc, ◌<◌, ◌≤◌
 use Rattle.std.specs.List.{AllByRecursion, filter}
 use Rattle.std.proofs.lemmas.Bool.{eqb-true}
 use Rattle.board_rows.proofs.Words.{Follows, Xid, same_xid, Deed, Record, Does, thread_of, scn_of, Rising, EachOver, recorded_in, IsNumbered, IsWithin, wrap_in, Numbers, stage, Fresh, Active}
-use Rattle.board_rows.proofs.Lists.{tests, all_map, all_of}
+use Rattle.board_rows.proofs.Lists.{cases, all_map, all_of}
 use Rattle.board_rows.proofs.Losses.{older-kept, Kept, kept-other, own-other, fresh-kept}
 
 -- an active transaction is within the wraps of its slot
@@ -23,7 +23,7 @@ module _ {recs : List Record} {told since : ℕ → List (Xid × Deed)} {has end
       within i = grind (arith, h.within i)
 
       wraps : (y : Xid) → 0 < y.wrap → y.wrap ≤ wrap_in y.seg y.slot (Does c x seq deed ∷ recs) → (same_xid y x || has y) ≡ true
-      wraps y low up = grind (arith, tests, h.wraps y, wrap-active x recs)
+      wraps y low up = grind (arith, cases, h.wraps y, wrap-active x recs)
 
 -- all deeds of a segment are kept
 did-kept : (i kept j : ℕ) (recs : List Record) → AllByRecursion (λ o. thread_of o ≡ j → Kept i kept o ≡ true) recs → recorded_in j (filter (Kept i kept) recs) ≡ recorded_in j recs

@@ -3,7 +3,7 @@ use Rattle.std.proofs.Common.{◌≡◌, ℕ, ◌<◌, true, false, filter, ◌|
 use Rattle.std.specs.List.{AllByRecursion}
 use Rattle.std.proofs.lemmas.Bool.{eqb-true}
 use Rattle.board_rows.proofs.Words.{Xid, same_xid, row_of, changes_of, Commit, DeedAt, without, EachPair, IsFree, on, shown, on_row, deeds_in, seen_at, IsOver, Ordered, IsMade}
-use Rattle.board_rows.proofs.Lists.{tests, pair_map, all_map}
+use Rattle.board_rows.proofs.Lists.{cases, pair_map, all_map}
 use Rattle.board_rows.proofs.Shown.{NoneOn, Ahead, none-shown, shown-alike, on_row-all, on_row-of_xid}
 use Rattle.board_rows.proofs.Table.{OneMore, IsClear}
 
@@ -22,23 +22,23 @@ pub none-under : (k : ℕ) (x : Xid) (committed : Xid → Option ℕ) (m : DeedA
 none-under k x committed m os new other a = all_map _ _ os one
   where
     one : (o : DeedAt) → IsOver committed m o → on k o ≡ true → same_xid x o.xid ≡ false
-    one o over b = grind (arith, tests)
+    one o over b = grind (arith, cases)
 
 -- what isn't committed is ahead of what is
 pub Ordered-ahead : (k s : ℕ) (x : Xid) (committed : Xid → Option ℕ) (mods : List DeedAt) → committed x ≡ None → Ordered committed mods → Ahead k (same_xid x) (seen_at s committed) mods
 Ordered-ahead k s x committed [] new h = tt
-Ordered-ahead k s x committed (m ∷ mods) new h = (λ a p. none-under k x committed m mods new (grind (arith, tests)) a h.0, Ordered-ahead k s x committed mods new h.1)
+Ordered-ahead k s x committed (m ∷ mods) new h = (λ a p. none-under k x committed m mods new (grind (arith, cases)) a h.0, Ordered-ahead k s x committed mods new h.1)
 
 -- a change over deeds of its own and of those that committed up to s
 pub Ordered-changes : (committed : Xid → Option ℕ) (m : DeedAt) (mods : List DeedAt) (s : ℕ) → s < m.scn → AllByRecursion (IsFree committed s m.xid (row_of m.deed)) mods → Ordered committed mods → Ordered committed (m ∷ mods)
 Ordered-changes committed m mods s lt free h = (all_map _ _ mods one free, h)
   where
     one : (o : DeedAt) → IsFree committed s m.xid (row_of m.deed) o → IsOver committed m o
-    one o f = grind (arith, tests)
+    one o f = grind (arith, cases)
 
 -- one more commit
 over-committed : (x : Xid) (c : ℕ) (old now : Xid → Option ℕ) (m o : DeedAt) → OneMore x c old now → IsOver old m o → IsOver now m o
-over-committed x c old now m o more f = grind (arith, tests, more.is o.xid, more.new)
+over-committed x c old now m o more f = grind (arith, cases, more.is o.xid, more.new)
 
 pub Ordered-committed : (x : Xid) (c : ℕ) (old now : Xid → Option ℕ) (mods : List DeedAt) → OneMore x c old now → Ordered old mods → Ordered now mods
 Ordered-committed x c old now mods more = pair_map _ _ mods (λ m o f. over-committed x c old now m o more f)
@@ -61,7 +61,7 @@ pair_from R apart (m ∷ mods) h = (all mods (head (h (row_of m.deed))), pair_fr
     tail k g = grind arith
 
     head : EachPair R (filter (on (row_of m.deed)) (m ∷ mods)) → AllByRecursion (R m) (filter (on (row_of m.deed)) mods)
-    head g = grind (arith, tests)
+    head g = grind (arith, cases)
 
     all : (os : List DeedAt) → AllByRecursion (R m) (filter (on (row_of m.deed)) os) → AllByRecursion (R m) os
     all [] g = tt
@@ -70,23 +70,23 @@ pair_from R apart (m ∷ mods) h = (all mods (head (h (row_of m.deed))), pair_fr
 -- of one that isn't committed and one that is, one has nothing on the row, or the commit is below the other's deeds
 holder-under : (k : ℕ) (x y : Xid) (d : ℕ) (committed : Xid → Option ℕ) (m : DeedAt) (os : List DeedAt) → committed x ≡ None → committed y ≡ Some d → on k m ≡ true → x ≡ m.xid → AllByRecursion (IsOver committed m) os → NoneOn k (same_xid y) os ⊎ (d < m.scn)
 holder-under k x y d committed m [] new has a is over = inl tt
-holder-under k x y d committed m (o ∷ os) new has a is over = grind (arith, tests, holder-under k x y d committed m os new has a is over.1)
+holder-under k x y d committed m (o ∷ os) new has a is over = grind (arith, cases, holder-under k x y d committed m os new has a is over.1)
 
 apart-or-below : (k : ℕ) (x y : Xid) (c d : ℕ) (committed : Xid → Option ℕ) (mods : List DeedAt) → committed x ≡ None → committed y ≡ Some d → Ordered committed mods → AllByRecursion (λ m. same_xid x m.xid ≡ true → m.scn < c) mods
     → NoneOn k (same_xid x) mods ⊎ (NoneOn k (same_xid y) mods ⊎ (d < c))
 apart-or-below k x y c d committed [] new has h low = inl tt
 apart-or-below k x y c d committed (m ∷ mods) new has h low =
-    grind (arith, tests, apart-or-below k x y c d committed mods new has h.1 low.1, holder-under k x y d committed m mods new has, none-under k x committed m mods new)
+    grind (arith, cases, apart-or-below k x y c d committed mods new has h.1 low.1, holder-under k x y d committed m mods new has, none-under k x committed m mods new)
 
 -- the commit that becomes durable is clear of each of the history
 pub clear-of : (x : Xid) (a : Commit) (committed : Xid → Option ℕ) (mods : List DeedAt) (b : Commit) → committed x ≡ None → ((k : ℕ) → on_row k a.changes ≡ changes_of (shown k (same_xid x) mods)) → Ordered committed mods
     → AllByRecursion (λ m. same_xid x m.xid ≡ true → m.scn < a.commit_scn) mods → IsMade committed mods b → IsClear a b
 clear-of x a committed mods b new same order low made k =
-    grind (arith, tests, apart-or-below k x b.xid a.commit_scn b.commit_scn committed mods new made.0 order low, same k, none-shown k (same_xid x) mods, none-shown k (same_xid b.xid) mods, ap (on_row k) made.1 ∙ on_row-of_xid k b.xid mods)
+    grind (arith, cases, apart-or-below k x b.xid a.commit_scn b.commit_scn committed mods new made.0 order low, same k, none-shown k (same_xid x) mods, none-shown k (same_xid b.xid) mods, ap (on_row k) made.1 ∙ on_row-of_xid k b.xid mods)
 
 -- below a change of x, all on its row is of x or committed
 pub all-seen : (k s : ℕ) (x : Xid) (committed : Xid → Option ℕ) (mods : List DeedAt) → AllByRecursion (IsFree committed s x k) mods → on_row k (changes_of (deeds_in mods)) ≡ changes_of (shown k (λ y. same_xid x y || seen_at s committed y) mods)
 all-seen k s x committed mods free = on_row-all k mods ∙ ap changes_of (shown-alike k _ _ mods (all_map _ _ mods one free))
   where
     one : (m : DeedAt) → IsFree committed s x k m → on k m ≡ true → true ≡ (same_xid x m.xid || seen_at s committed m.xid)
-    one m free a = grind (arith, tests)
+    one m free a = grind (arith, cases)

@@ -3,7 +3,7 @@ use Rattle.std.proofs.Common.{◌≡◌, ℕ, ◌≤◌, Bool, true, false, cond
 use Rattle.std.specs.List.{AllByRecursion}
 use Rattle.std.proofs.lemmas.List.Elements.{filter-append}
 use Rattle.board_rows.proofs.Words.{Xid, same_xid, Change, Deed, row_of, changes_of, Commit, entered, value_by, changes_up_to, changes_in, Replays, same_xid-true, DeedAt, of_xid, IsFree, on, shown, on_row, deeds_in, seen_at, IsOver, Ordered}
-use Rattle.board_rows.proofs.Lists.{tests, all_map}
+use Rattle.board_rows.proofs.Lists.{cases, all_map}
 use Rattle.board_rows.proofs.Shown.{NoneOn, shown-or, changes_of-append, on_row-of_xid}
 use Rattle.board_rows.proofs.Table.{IsClear}
 use Rattle.board_rows.proofs.Order.{none-under, Ordered-ahead, all-seen}
@@ -35,28 +35,28 @@ Replays-split (change ∷ older) base r = let rest = Replays-split older base r.
 -- bases that agree in each row that has changes
 pub ReplaysOn-same : (changes base other : List Change) → ((k : ℕ) → (on_row k changes ≡ []) ⊎ (on_row k base ≡ on_row k other)) → ReplaysOn base changes → ReplaysOn other changes
 ReplaysOn-same [] base other e h = tt
-ReplaysOn-same (change ∷ older) base other e h = grind (arith, tests, value-below, ReplaysOn-same older)
+ReplaysOn-same (change ∷ older) base other e h = grind (arith, cases, value-below, ReplaysOn-same older)
 
 none_either : (k : ℕ) (xs ys : List Change) → on_row k xs ≡ [] → on_row k (xs ++ ys) ≡ on_row k ys
 none_either k xs ys e = filter-append _ xs ys ∙ ap (λ cs. cs ++ on_row k ys) e
 
 all-untouched : (k : ℕ) (a : Commit) (commits : List Commit) → on_row k a.changes ≡ [] → on_row k (changes_in (entered a commits)) ≡ on_row k (changes_in commits)
 all-untouched k a [] h = none_either k a.changes [] h
-all-untouched k a (b ∷ commits) h = grind (arith, tests, none_either, filter-append, all-untouched k a commits h)
+all-untouched k a (b ∷ commits) h = grind (arith, cases, none_either, filter-append, all-untouched k a commits h)
 
 pub Replays-entered : (a : Commit) (commits : List Commit) → AllByRecursion (IsClear a) commits → ReplaysOn (changes_in commits) a.changes → Replays (changes_in commits) → Replays (changes_in (entered a commits))
 Replays-entered a [] clear on r = Replays-join a.changes [] on r
-Replays-entered a (b ∷ commits) clear on r = grind (arith, tests, Replays-join, Replays-split, ReplaysOn-same, all-untouched, none_either, Replays-entered a commits clear.1)
+Replays-entered a (b ∷ commits) clear on r = grind (arith, cases, Replays-join, Replays-split, ReplaysOn-same, all-untouched, none_either, Replays-entered a commits clear.1)
 
 pub Replays-tail : (d : Deed) (deeds : List Deed) → Replays (changes_of (d ∷ deeds)) → Replays (changes_of deeds)
 Replays-tail d deeds r = grind arith
 
 -- the first deed, over other deeds with the same value in its row
 pub Replays-head : (d : Deed) (xs ys : List Deed) → Replays (changes_of (d ∷ xs)) → on_row (row_of d) (changes_of xs) ≡ on_row (row_of d) (changes_of ys) → Replays (changes_of ys) → Replays (changes_of (d ∷ ys))
-Replays-head d xs ys r e h = grind (arith, tests, value-same)
+Replays-head d xs ys r e h = grind (arith, cases, value-same)
 
 replays_on-head : (d : Deed) (all mine : List Deed) (base : List Change) → on_row (row_of d) (changes_of all) ≡ on_row (row_of d) (changes_of mine ++ base) → Replays (changes_of (d ∷ all)) → ReplaysOn base (changes_of mine) → ReplaysOn base (changes_of (d ∷ mine))
-replays_on-head d all mine base e r ih = grind (arith, tests, value-same)
+replays_on-head d all mine base e r ih = grind (arith, cases, value-same)
 
 -- what stands of a transaction that isn't committed, with the commits below it
 pub own-first : (k s : ℕ) (x : Xid) (committed : Xid → Option ℕ) (mods : List DeedAt) → committed x ≡ None → Ordered committed mods
@@ -70,7 +70,7 @@ free-under : (s : ℕ) (committed : Xid → Option ℕ) (m : DeedAt) (os : List 
 free-under s committed m os le = all_map _ _ os one
   where
     one : (o : DeedAt) → IsOver committed m o → IsFree committed s m.xid (row_of m.deed) o
-    one o over a = grind (arith, tests)
+    one o over a = grind (arith, cases)
 
 -- what stands of a transaction replays on the table
 pub replays-on : (s : ℕ) (x : Xid) (committed : Xid → Option ℕ) (base : List Change) (mods : List DeedAt) → committed x ≡ None → AllByRecursion (λ m. m.scn ≤ s) mods → Ordered committed mods
@@ -79,10 +79,10 @@ replays-on s x committed base [] new low h based r = tt
 replays-on s x committed base (m ∷ mods) new low h based r = by (same_xid x m.xid) refl (replays-on s x committed base mods new low.1 h.1 (λ k. below k (based k)) (Replays-tail m.deed (deeds_in mods) r))
   where
     below : (k : ℕ) → NoneOn k (same_xid x) (m ∷ mods) ⊎ (on_row k base ≡ changes_of (shown k (seen_at s committed) (m ∷ mods))) → NoneOn k (same_xid x) mods ⊎ (on_row k base ≡ changes_of (shown k (seen_at s committed) mods))
-    below k either = grind (arith, tests, none-under k x committed m mods new)
+    below k either = grind (arith, cases, none-under k x committed m mods new)
 
     table : same_xid x m.xid ≡ true → NoneOn (row_of m.deed) (same_xid x) (m ∷ mods) ⊎ (on_row (row_of m.deed) base ≡ changes_of (shown (row_of m.deed) (seen_at s committed) (m ∷ mods))) → on_row (row_of m.deed) base ≡ changes_of (shown (row_of m.deed) (seen_at s committed) mods)
-    table f either = grind (arith, tests)
+    table f either = grind (arith, cases)
 
     rows : same_xid x m.xid ≡ true → on_row (row_of m.deed) (changes_of (deeds_in mods)) ≡ on_row (row_of m.deed) (changes_of (deeds_in (of_xid x mods)) ++ base)
     rows f =

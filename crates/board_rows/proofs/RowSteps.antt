@@ -2,7 +2,7 @@
 use Rattle.std.proofs.Common.{◌≡◌, ℕ, ◌<◌, true, false, ◌==◌, max, List, [], ◌∷◌, refl, sym, ap, ◌∙◌, arith, inr, ◌⊎◌, Option, None}
 use Rattle.std.specs.List.{AllByRecursion}
 use Rattle.board_rows.proofs.Words.{Xid, same_xid, Deed, row_of, changes_of, Commit, entered, changes_in, Replays, same_xid-refl, Record, Does, TakesBack, DeedAt, without, is_that, of_xid, stands, IsFree, on_row, deeds_in, seen_at, IsOver, Ordered, IsMade, Finds, RowsStand}
-use Rattle.board_rows.proofs.Lists.{tests, tests, all_map, suffix_here, suffix_map}
+use Rattle.board_rows.proofs.Lists.{cases, cases, all_map, suffix_here, suffix_map}
 use Rattle.board_rows.proofs.Shown.{shown-hidden, shown-without, on_row-all, on_row-of_xid}
 use Rattle.board_rows.proofs.Table.{IsClear, OneMore, TableStands-committed}
 use Rattle.board_rows.proofs.Order.{Ordered-changes, Ordered-committed, pair_without, Ordered-ahead, clear-of}
@@ -28,14 +28,14 @@ newest-first x seq row (o ∷ mods) m rest e f g = grind (arith, newest-first x 
 -- nothing stands over it on its row
 under-other : (x : Xid) (seq row : ℕ) (committed : Xid → Option ℕ) (m : DeedAt) (os : List DeedAt) → committed x ≡ None → same_xid x m.xid ≡ false → AllByRecursion (IsOver committed m) os → IsNewest x seq row os → (row == row_of m.deed) ≡ false
 under-other x seq row committed m [] new a h f = absurd f
-under-other x seq row committed m (o ∷ os) new a h either = grind (arith, tests, under-other x seq row committed m os new a h.1)
+under-other x seq row committed m (o ∷ os) new a h either = grind (arith, cases, under-other x seq row committed m os new a h.1)
 
 value-without : (k : ℕ) (x : Xid) (seq row : ℕ) (mods : List DeedAt) → (row == k) ≡ false → on_row k (changes_of (deeds_in mods)) ≡ on_row k (changes_of (deeds_in (without x seq row mods)))
-value-without k x seq row mods e = grind (arith, tests, on_row-all, shown-without)
+value-without k x seq row mods e = grind (arith, cases, on_row-all, shown-without)
 
 pub Replays-without : (x : Xid) (seq row : ℕ) (committed : Xid → Option ℕ) (mods : List DeedAt) → committed x ≡ None → Ordered committed mods → IsNewest x seq row mods → Replays (changes_of (deeds_in mods)) → Replays (changes_of (deeds_in (without x seq row mods)))
 Replays-without x seq row committed [] new h f r = tt
-Replays-without x seq row committed (m ∷ mods) new h either r = grind (arith, tests, Replays-tail, Replays-head, value-without, under-other, Replays-without x seq row committed mods new h.1)
+Replays-without x seq row committed (m ∷ mods) new h either r = grind (arith, cases, Replays-tail, Replays-head, value-without, under-other, Replays-without x seq row committed mods new h.1)
 
 -- a commit of the history is another's than x, which isn't committed
 made-other : (committed : Xid → Option ℕ) (mods other : List DeedAt) (x : Xid) → committed x ≡ None → ((y : Xid) → same_xid y x ≡ false → of_xid y mods ≡ of_xid y other) → (a : Commit) → IsMade committed mods a → IsMade committed other a
@@ -80,7 +80,7 @@ module _ {recs : List Record} {committed : Xid → Option ℕ} {commits : List C
 
   -- an end changes no row
   pub rows-ends : (r : Record) → stands (r ∷ recs) ≡ stands recs → RowsStand (r ∷ recs) committed commits
-  rows-ends r same = grind (arith, tests, suffix_here)
+  rows-ends r same = grind (arith, cases, suffix_here)
 
   pub rows-clear : (x : Xid) (a : Commit) → committed x ≡ None → a.changes ≡ changes_of (deeds_in (of_xid x (stands recs)))
       → AllByRecursion (λ m. same_xid x m.xid ≡ true → m.scn < a.commit_scn) (stands recs) → AllByRecursion (IsClear a) commits
@@ -102,7 +102,7 @@ module _ {recs : List Record} {committed : Xid → Option ℕ} {commits : List C
       clear = rows-clear x a more.new marked below
 
       keeps : (b : Commit) → IsMade committed (stands recs) b → IsMade now (stands recs) b
-      keeps b made = grind (arith, tests, more.is b.xid, more.new)
+      keeps b made = grind (arith, cases, more.is b.xid, more.new)
 
       on : ReplaysOn (changes_in commits) (changes_of (deeds_in (of_xid x (stands recs))))
       on =

@@ -1,8 +1,9 @@
 -- The clauses on segments are kept.
+use Rattle.board_rows.proofs.Lists.{cases}
 use Rattle.std.proofs.Common.{◌≡◌, ◌≢◌, ℕ, ◌<◌, ◌≤◌, Bool, true, false, cond, ◌==◌, List, ◌∷◌, refl, sym, ◌∙◌, arith, inl}
 use Rattle.std.specs.List.{AllByRecursion, filter}
 use Rattle.board_rows.proofs.Words.{Xid, same_xid, Deed, Record, Does, TakesBack, Commits, RollsBack, thread_of, scn_of, xid_of, Active, stage, Rising, EachPair, IsSafe, ForSegment, put, KeepsSegments, Segments}
-use Rattle.board_rows.proofs.Lists.{tests, pair_map, pair_both, pair_filter, all_of, all_map, all_both, all_filter}
+use Rattle.board_rows.proofs.Lists.{cases, pair_map, pair_both, pair_filter, all_of, all_map, all_both, all_filter}
 use Rattle.board_rows.proofs.Losses.{Kept, older-kept, stage-kept}
 
 -- under a change or lock what others have for its segment has entered
@@ -11,13 +12,13 @@ AreOnSafe durable = EachPair (ForSegment (IsSafe durable))
 
 -- what has entered is kept
 safe-kept : (i kept : ℕ) (durable : ℕ → ℕ) → durable i ≤ kept → (r : Record) → scn_of r ≤ durable (thread_of r) → Kept i kept r ≡ true
-safe-kept i kept durable low r le = grind (arith, tests)
+safe-kept i kept durable low r le = grind (arith, cases)
 
 module _ {recs : List Record} {durable : ℕ → ℕ} {live : Xid → Bool} {up : ℕ → Bool} (h : Segments recs durable live up) where
   pub segments-changes : (c : ℕ) (x : Xid) (seq : ℕ) (deed : Deed) → up x.seg ≡ true → Segments (Does c x seq deed ∷ recs) durable (λ y. cond (same_xid y x) true (live y)) up
   segments-changes c x seq deed is = record {
-    lives = λ y e. grind (arith, tests, h.lives y);
-    active = λ y e u. grind (arith, tests, h.active y);
+    lives = λ y e. grind (arith, cases, h.lives y);
+    active = λ y e u. grind (arith, cases, h.active y);
     safe = ((λ _. inl refl), h.safe);
     under = (all_map _ _ recs (λ o f e. f (rw e is)) h.safe, h.under);
   }
@@ -40,10 +41,10 @@ module _ {recs : List Record} {durable : ℕ → ℕ} {live : Xid → Bool} {up 
   segments-settles j c new = record { lives = h.lives; active = h.active; safe = all_map _ _ recs (λ r f is. safe-more r (f is)) h.safe; under = pair_map _ _ recs more h.under }
     where
       safe-more : (r : Record) → IsSafe durable r → IsSafe (put durable j c) r
-      safe-more r f = grind (arith, tests)
+      safe-more r f = grind (arith, cases)
 
       more : (r o : Record) → ForSegment (IsSafe durable) r o → ForSegment (IsSafe (put durable j c)) r o
-      more r o f = grind (arith, tests)
+      more r o f = grind (arith, cases)
 
   pub segments-loses : (i kept : ℕ) → durable i ≤ kept → Segments (filter (Kept i kept) recs) durable (λ y. cond (y.seg == i) false (live y)) (λ j. cond (j == i) false (up j))
   segments-loses i kept low = record {
@@ -57,7 +58,7 @@ module _ {recs : List Record} {durable : ℕ → ℕ} {live : Xid → Bool} {up 
       safe r f is = grind arith
 
       kept-own : (y : Xid) → (y.seg == i) ≡ false → up y.seg ≡ true → (r : Record) → (up (xid_of r).seg ≡ true → IsSafe durable r) → same_xid y (xid_of r) ≡ true → Kept i kept r ≡ true
-      kept-own y off is r f e = grind (arith, tests, safe-kept i kept durable low r)
+      kept-own y off is r f e = grind (arith, cases, safe-kept i kept durable low r)
 
       active : (y : Xid) → stage y (filter (Kept i kept) recs) ≡ Active → cond (y.seg == i) false (up y.seg) ≡ true → cond (y.seg == i) false (live y) ≡ true
       active y e is = by (y.seg == i) refl is
@@ -67,14 +68,11 @@ module _ {recs : List Record} {durable : ℕ → ℕ} {live : Xid → Bool} {up 
           by false off is = h.active y (sym (stage-kept i kept y recs (all_map _ _ recs (kept-own y off is) h.safe)) ∙ e) is
 
   pub segments-ups : (i : ℕ) → ((x : Xid) → x.seg ≡ i → stage x recs ≢ Active) → AllByRecursion (λ r. (xid_of r).seg ≡ i → IsSafe durable r) recs → Segments recs durable live (λ j. cond (j == i) true (up j))
-  segments-ups i ended safe = record { lives = λ y e. grind (arith, h.lives y); active = λ y e u. grind (arith, tests, h.active y, ended y); safe = all_both _ _ _ recs one safe h.safe; under = h.under }
+  segments-ups i ended safe = record { lives = λ y e. grind (arith, h.lives y); active = λ y e u. grind (arith, cases, h.active y, ended y); safe = all_both _ _ _ recs one safe h.safe; under = h.under }
     where
       one : (r : Record) → ((xid_of r).seg ≡ i → IsSafe durable r) → (up (xid_of r).seg ≡ true → IsSafe durable r) → cond ((xid_of r).seg == i) true (up (xid_of r).seg) ≡ true → IsSafe durable r
-      one r new old is = grind (arith, tests)
+      one r new old is = grind (arith, cases)
 
 -- what a loss keeps of a segment
 pub keeps-segments : (i kept : ℕ) (durable : ℕ → ℕ) → durable i ≤ kept → (recs : List Record) → Rising recs → AreOnSafe durable recs → KeepsSegments i kept recs
-keeps-segments i kept durable low recs = pair_both _ _ _ recs one
-  where
-    one : (r o : Record) → (thread_of o ≡ thread_of r → scn_of o < scn_of r) → ForSegment (IsSafe durable) r o → Kept i kept r ≡ true → ForSegment (λ o. Kept i kept o ≡ true) r o
-    one r o rises safe k = grind (arith, tests, older-kept i kept r o, safe-kept i kept durable low o)
+keeps-segments i kept durable low recs = grind (arith, cases, pair_both, Record, thread_of, scn_of, ForSegment, IsSafe, Kept, older-kept, safe-kept)

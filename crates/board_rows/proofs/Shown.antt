@@ -1,8 +1,9 @@
 -- The deeds on a row that are seen.
+use Rattle.board_rows.proofs.Lists.{cases}
 use Rattle.std.proofs.Common.{◌≡◌, ℕ, Bool, true, false, ◌||◌, ◌==◌, List, [], ◌∷◌, ◌++◌, refl, ap, ◌∙◌, arith}
 use Rattle.std.specs.List.{AllByRecursion}
-use Rattle.board_rows.proofs.Words.{Xid, same_xid, Deed, row_of, changes_of, DeedAt, Record, Does, TakesBack, Commits, RollsBack, stands, without, xid_of, is_that, touches, of_xid, on, shown, on_row, deeds_in}
-use Rattle.board_rows.proofs.Lists.{tests, all_of}
+use Rattle.board_rows.proofs.Words.{Xid, same_xid, Deed, row_of, changes_of, DeedAt, Record, stands, without, xid_of, is_that, touches, of_xid, on, shown, on_row, deeds_in}
+use Rattle.board_rows.proofs.Lists.{cases, all_of}
 
 -- none of these is on the row
 abbrev pub NoneOn : ℕ → (Xid → Bool) → List DeedAt → Type 0
@@ -24,7 +25,7 @@ none-shown k q (m ∷ mods) h = grind (arith, none-shown k q mods h.1)
 -- what is ahead comes first
 pub shown-or : (k : ℕ) (q p : Xid → Bool) (mods : List DeedAt) → ((y : Xid) → q y ≡ true → p y ≡ false) → Ahead k q p mods → shown k (λ y. q y || p y) mods ≡ shown k q mods ++ shown k p mods
 shown-or k q p [] apart h = refl
-shown-or k q p (m ∷ mods) apart h = grind (arith, tests, none-shown, shown-none, shown-or k q p mods apart h.1)
+shown-or k q p (m ∷ mods) apart h = grind (arith, cases, none-shown, shown-none, shown-or k q p mods apart h.1)
 
 -- tests that agree on what is on the row
 pub shown-alike : (k : ℕ) (p q : Xid → Bool) (mods : List DeedAt) → AllByRecursion (λ m. on k m ≡ true → p m.xid ≡ q m.xid) mods → shown k p mods ≡ shown k q mods
@@ -50,12 +51,7 @@ shown-without k p x seq row (m ∷ mods) h = grind (arith, shown-without k p x s
 -- a later record of a transaction that isn't seen changes nothing of what is seen
 pub shown-later : (k : ℕ) (p : Xid → Bool) (newer there : List Record) → AllByRecursion (λ r. touches k r ≡ true → p (xid_of r) ≡ false) newer → shown k p (stands (newer ++ there)) ≡ shown k p (stands there)
 shown-later k p [] there h = refl
-shown-later k p (Does c x seq d ∷ newer) there h =
-    shown-hidden k p (record { xid = x; seq = seq; scn = c; deed = d }) (stands (newer ++ there)) h.0 ∙ shown-later k p newer there h.1
-shown-later k p (TakesBack i c x seq row ∷ newer) there h =
-    shown-without k p x seq row (stands (newer ++ there)) h.0 ∙ shown-later k p newer there h.1
-shown-later k p (Commits c x ∷ newer) there h = shown-later k p newer there h.1
-shown-later k p (RollsBack i c x ∷ newer) there h = shown-later k p newer there h.1
+shown-later k p (r ∷ newer) there h = grind (arith, cases, shown-hidden, stands, shown-without, shown-later k p newer)
 
 -- the changes among deeds
 pub changes_of-append : (xs ys : List Deed) → changes_of (xs ++ ys) ≡ changes_of xs ++ changes_of ys

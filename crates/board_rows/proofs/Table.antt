@@ -3,7 +3,7 @@ use Rattle.std.proofs.Common.{◌≡◌, ℕ, Bool, true, false, cond, ◌||◌,
 use Rattle.std.specs.List.{AllByRecursion}
 use Rattle.std.proofs.lemmas.List.Elements.{filter-append}
 use Rattle.board_rows.proofs.Words.{Xid, same_xid, Change, changes_of, Commit, is_before, entered, changes_up_to, same_xid-true, DeedAt, shown, on_row, is_up_to, seen_at, TableStands}
-use Rattle.board_rows.proofs.Lists.{tests, clash}
+use Rattle.board_rows.proofs.Lists.{cases, clash}
 use Rattle.board_rows.proofs.Shown.{Ahead, shown-or, shown-same, changes_of-append}
 
 -- two commits are in order, or have no row in common
@@ -15,7 +15,7 @@ abbrev at_s : ℕ → Commit → List Change
 at_s s a = cond (leb a.commit_scn s) a.changes []
 
 row-cons : (k s : ℕ) (a : Commit) (commits : List Commit) → on_row k (changes_up_to s (a ∷ commits)) ≡ on_row k (at_s s a) ++ on_row k (changes_up_to s commits)
-row-cons k s a commits = grind (arith, tests, filter-append)
+row-cons k s a commits = grind (arith, cases, filter-append)
 
 row-none : (k s : ℕ) (b : Commit) → on_row k b.changes ≡ [] → on_row k (at_s s b) ≡ []
 row-none k s b h = grind arith

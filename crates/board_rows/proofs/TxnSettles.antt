@@ -1,10 +1,8 @@
 -- The clauses on transactions are kept where the first record of a thread that isn't durable becomes so.
-use Rattle.std.proofs.Common.{◌≡◌, ℕ, ◌<◌, ◌≤◌, Bool, true, false, cond, ◌&&◌, ◌||◌, ◌==◌, List, [], ◌∷◌, ◌++◌, refl, sym, ap, ◌∙◌, subst, arith, leb, inl, inr, ◌⊎◌, Option, Some, None}
+use Rattle.std.proofs.Common.{◌≡◌, ℕ, ◌<◌, ◌≤◌, Bool, true, false, cond, ◌&&◌, ◌||◌, ◌==◌, List, [], ◌∷◌, ◌++◌, refl, sym, ◌∙◌, subst, arith, inl, inr, ◌⊎◌, Option, Some, None}
 use Rattle.std.specs.List.{AllByRecursion}
-use Rattle.std.proofs.lemmas.Bool.{eq-eqb, eqb-true}
-use Rattle.std.proofs.lemmas.Bool.Decides.{nat_tests}
-use Rattle.board_rows.proofs.Words.{Xid, same_xid, Change, Deed, same_xid-refl, same_xid-true, Record, Commits, thread_of, scn_of, xid_of, Stage, Fresh, Active, Over, stage, durable_commit, Rising, put, Txns, EndsBy, RecordIsIn}
-use Rattle.board_rows.proofs.Lists.{all_map, all_append, clash, tests}
+use Rattle.board_rows.proofs.Words.{Xid, same_xid, Change, Deed, same_xid-true, Record, Commits, thread_of, scn_of, xid_of, Stage, Fresh, Active, Over, stage, durable_commit, Rising, put, Txns, EndsBy, RecordIsIn}
+use Rattle.board_rows.proofs.Lists.{all_map, all_append, cases}
 use Rattle.board_rows.proofs.ClockSteps.{put-rises}
 use Rattle.board_rows.proofs.TxnSteps.{stage-commit}
 
@@ -26,14 +24,14 @@ settles_to _ y before = before
 -- it is that of its stage, where this record is the first of its thread that wasn't durable
 settled-stage : (durable : ℕ → ℕ) (r : Record) (y : Xid) (st : Stage) (before : Option ℕ) → before ≡ durable_commit (durable y.seg) st → (same_xid y (xid_of r) ≡ true → EndsBy st r) → durable (thread_of r) < scn_of r → ((e : ℕ) → st ≡ Over (Some e) → IsPlaced (durable (thread_of r)) r (Commits e y))
     → settles_to r y before ≡ durable_commit (put durable (thread_of r) (scn_of r) y.seg) st
-settled-stage durable r y Fresh before is ends new placed = grind (arith, tests)
-settled-stage durable r y Active before is ends new placed = grind (arith, tests)
-settled-stage durable r y (Over None) before is ends new placed = grind (arith, tests)
+settled-stage durable r y Fresh before is ends new placed = grind (arith, cases)
+settled-stage durable r y Active before is ends new placed = grind (arith, cases)
+settled-stage durable r y (Over None) before is ends new placed = grind (arith, cases)
 settled-stage durable r y (Over (Some e)) before is ends new placed = at_commit r is ends new (placed e refl)
   where
     at_commit : (r : Record) → before ≡ durable_commit (durable y.seg) (Over (Some e)) → (same_xid y (xid_of r) ≡ true → EndsBy (Over (Some e)) r) → durable (thread_of r) < scn_of r → IsPlaced (durable (thread_of r)) r (Commits e y)
         → settles_to r y before ≡ durable_commit (put durable (thread_of r) (scn_of r) y.seg) (Over (Some e))
-    at_commit r is ends new placed = grind (arith, tests)
+    at_commit r is ends new placed = grind (arith, cases)
 
 module _ {recs : List Record} {durable : ℕ → ℕ} {stand : Xid → List Deed} {live : Xid → Bool} {mark : Xid → ℕ → List Change} {has_mark : Xid → ℕ → Bool} {committed : Xid → Option ℕ} {has_commit : ℕ → ℕ → Bool}
     (txns : Txns recs durable stand live mark has_mark committed has_commit) where

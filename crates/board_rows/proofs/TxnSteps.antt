@@ -3,7 +3,7 @@ use Rattle.std.proofs.Common.{◌≡◌, ◌≢◌, ℕ, ◌-◌, ◌<◌, Bool,
 use Rattle.std.specs.List.{AllByRecursion}
 use Rattle.std.proofs.lemmas.List.{length-map}
 use Rattle.board_rows.proofs.Words.{Xid, same_xid, Change, Deed, changes_of, Record, Does, TakesBack, Commits, RollsBack, DeedAt, without, of_xid, scn_of, xid_of, stands, Stage, Fresh, Active, Over, stage, durable_commit, deeds_in, MayFollow, Follows, Txns, TxnAgrees, RecordIsIn}
-use Rattle.board_rows.proofs.Lists.{tests, all_map, all_both}
+use Rattle.board_rows.proofs.Lists.{cases, all_map, all_both}
 use Rattle.board_rows.proofs.RowSteps.{of_xid-without}
 
 -- nothing follows an end
@@ -13,7 +13,7 @@ stops r st o g e = grind arith
 -- of a fresh transaction there is no record
 pub fresh-apart : (x : Xid) (recs : List Record) → Follows recs → stage x recs ≡ Fresh → AllByRecursion (λ r. same_xid x (xid_of r) ≡ false) recs
 fresh-apart x [] f e = tt
-fresh-apart x (r ∷ recs) f e = grind (arith, tests, fresh-apart x recs f.1)
+fresh-apart x (r ∷ recs) f e = grind (arith, cases, fresh-apart x recs f.1)
 
 -- a commit is its record
 pub stage-commit : (P : Record → Type 0) (y : Xid) (e : ℕ) (recs : List Record) → AllByRecursion P recs → stage y recs ≡ Over (Some e) → P (Commits e y)
@@ -41,13 +41,13 @@ module _ {recs : List Record} {durable : ℕ → ℕ} {stand : Xid → List Deed
   -- a change or a lock
   pub txns-changes : (c : ℕ) (x : Xid) (seq : ℕ) (deed : Deed) → MayGoOn recs live x
       → Txns (Does c x seq deed ∷ recs) durable (λ y. cond (same_xid y x) (deed ∷ stand y) (stand y)) (λ y. cond (same_xid y x) true (live y)) mark has_mark committed has_commit
-  txns-changes c x seq deed goes = record { each = each; each_record = (grind (arith, tests), rest goes); follows = (goes-on c x seq deed goes, txns.follows); apart = txns.apart }
+  txns-changes c x seq deed goes = record { each = each; each_record = (grind (arith, cases), rest goes); follows = (goes-on c x seq deed goes, txns.follows); apart = txns.apart }
     where
       each : (y : Xid) → TxnAgrees (stage y (Does c x seq deed ∷ recs)) (deeds_in (of_xid y (stands (Does c x seq deed ∷ recs)))) (cond (same_xid y x) (deed ∷ stand y) (stand y)) (cond (same_xid y x) true (live y)) (mark y) (has_mark y) (committed y) (durable y.seg)
-      each y = grind (arith, tests, txns.each y, goes-new x goes)
+      each y = grind (arith, cases, txns.each y, goes-new x goes)
 
       one : (r : Record) → (stage x recs ≡ Active) × (live x ≡ true) ⊎ (same_xid x (xid_of r) ≡ false) → RecordIsIn recs live r → RecordIsIn (Does c x seq deed ∷ recs) (λ y. cond (same_xid y x) true (live y)) r
-      one r goes h = grind (arith, tests)
+      one r goes h = grind (arith, cases)
 
       rest : MayGoOn recs live x → AllByRecursion (RecordIsIn (Does c x seq deed ∷ recs) (λ y. cond (same_xid y x) true (live y))) recs
       rest (inl l) = all_map _ _ recs (λ r. one r (inl ((txns.each x).active l, l))) txns.each_record
@@ -56,26 +56,26 @@ module _ {recs : List Record} {durable : ℕ → ℕ} {stand : Xid → List Deed
   -- a step back
   pub txns-back : (i c : ℕ) (x : Xid) (seq row left : ℕ) (m : DeedAt) (rest : List DeedAt) → stage x recs ≡ Active → (live x ≡ true → i ≡ x.seg) → of_xid x (stands recs) ≡ m ∷ rest → of_xid x (without x seq row (stands recs)) ≡ rest → (live x ≡ true → left ≡ length rest)
       → Txns (TakesBack i c x seq row ∷ recs) durable (λ y. cond (same_xid y x) (drop (length (stand y) - left) (stand y)) (stand y)) live mark has_mark committed has_commit
-  txns-back i c x seq row left m rest is own newest less stays = grind (arith, tests, length-map, active-open, of_xid-without)
+  txns-back i c x seq row left m rest is own newest less stays = grind (arith, cases, length-map, active-open, of_xid-without)
 
   -- a commit's record
   pub txns-marks : (c : ℕ) (x : Xid) → live x ≡ true → durable x.seg < c → AllByRecursion (λ r. same_xid (xid_of r) x ≡ true → scn_of r < c) recs
       → Txns (Commits c x ∷ recs) durable stand (λ y. cond (same_xid y x) false (live y)) (λ y e. cond (same_xid y x && e == c) (changes_of (stand y)) (mark y e)) (λ y e. (same_xid y x && e == c) || has_mark y e) committed has_commit
-  txns-marks c x is late low = record { each = each; each_record = (grind (arith, tests), all_both _ _ _ recs one txns.each_record low); follows = (grind (arith, txns.each x), txns.follows); apart = txns.apart }
+  txns-marks c x is late low = record { each = each; each_record = (grind (arith, cases), all_both _ _ _ recs one txns.each_record low); follows = (grind (arith, txns.each x), txns.follows); apart = txns.apart }
     where
       each : (y : Xid) → TxnAgrees (stage y (Commits c x ∷ recs)) (deeds_in (of_xid y (stands recs))) (stand y) (cond (same_xid y x) false (live y)) (λ e. cond (same_xid y x && e == c) (changes_of (stand y)) (mark y e)) (λ e. (same_xid y x && e == c) || has_mark y e) (committed y) (durable y.seg)
-      each y = grind (arith, tests, txns.each y)
+      each y = grind (arith, cases, txns.each y)
 
       one : (r : Record) → RecordIsIn recs live r → (same_xid (xid_of r) x ≡ true → scn_of r < c) → RecordIsIn (Commits c x ∷ recs) (λ y. cond (same_xid y x) false (live y)) r
-      one r h low = grind (arith, tests, txns.each x)
+      one r h low = grind (arith, cases, txns.each x)
 
   -- the end of a rollback
   pub txns-rolls : (i c : ℕ) (x : Xid) → stage x recs ≡ Active → of_xid x (stands recs) ≡ []
       → Txns (RollsBack i c x ∷ recs) durable stand (λ y. cond (same_xid y x) false (live y)) mark has_mark committed has_commit
-  txns-rolls i c x act none = record { each = each; each_record = (grind (arith, tests), all_map _ _ recs one txns.each_record); follows = (grind (arith, txns.each x), txns.follows); apart = txns.apart }
+  txns-rolls i c x act none = record { each = each; each_record = (grind (arith, cases), all_map _ _ recs one txns.each_record); follows = (grind (arith, txns.each x), txns.follows); apart = txns.apart }
     where
       each : (y : Xid) → TxnAgrees (stage y (RollsBack i c x ∷ recs)) (deeds_in (of_xid y (stands recs))) (stand y) (cond (same_xid y x) false (live y)) (mark y) (has_mark y) (committed y) (durable y.seg)
-      each y = grind (arith, tests, txns.each y)
+      each y = grind (arith, cases, txns.each y)
 
       one : (r : Record) → RecordIsIn recs live r → RecordIsIn (RollsBack i c x ∷ recs) (λ y. cond (same_xid y x) false (live y)) r
-      one r h = grind (arith, tests)
+      one r h = grind (arith, cases)
