@@ -1,5 +1,5 @@
 -- What was answered stays right, and what is being read too.
-use Rattle.std.proofs.Common.{◌≡◌, ℕ, zero, suc, ◌+◌, ◌<◌, ◌≤◌, Bool, true, false, max, List, [], ◌∷◌, ◌++◌, refl, ap, ◌∙◌, arith, inl, ◌⊎◌, Option, Some, None, IsSomeAnd}
+use Rattle.std.proofs.Common.{◌≡◌, ℕ, zero, suc, ◌+◌, ◌<◌, ◌≤◌, Bool, true, max, List, [], ◌∷◌, ◌++◌, refl, ap, ◌∙◌, arith, inl, ◌⊎◌, Option, Some, None, IsSomeAnd}
 use Rattle.std.specs.List.{AllByRecursion}
 use Rattle.board_rows.proofs.Words.{Xid, Value, Entry, Rows, Start, Past, Each, same_xid, start_of, Change, changes_of, standing, is_open, Commit, entered, changes_up_to, value_by, sees, last_of, own_changes, Range, listed, listed_before, RowsAreSeen, FoundIsSeen, Record, DeedAt, stands, of_xid, Over, stage, on_row, deeds_in, Scan, put, unread, anew, read_on, RowsAreLate, RowsStand, AreRead, IsRead, ScanIsSeen, Answers}
 use Rattle.board_rows.proofs.Lists.{cases}
@@ -89,9 +89,6 @@ module _ (floor : ℕ → ℕ) (commits : List Commit) where
 
   pub unread-seen : (s first : ℕ) (value : ℕ → ℕ → Value) → ScanIsSeen floor (unread s first) value
   unread-seen s first value = record { seen = refl; read = λ k low high. absurd (omega (arith, low, high)) }
-
-  pub scan-anew : (t : Bool) (scan : Scan) (mine now : List Change) → (t ≡ false → now ≡ mine) → ScanIsSeen floor scan (by_own mine) → ScanIsSeen floor (anew t scan) (by_own now)
-  scan-anew t scan mine now e h = grind arith
 
   -- one more row is read
   pub scan-reads : (scan : Scan) (k : ℕ) (value : ℕ → ℕ → Value) → k ≡ scan.first + scan.count → ScanIsSeen floor scan value → ScanIsSeen (put floor k (max (floor k) scan.snapshot)) (read_on scan (value scan.snapshot k)) value

@@ -1,7 +1,7 @@
 -- A header of a later moment than the image's tells who has committed.
 use Rattle.std.proofs.Common.{◌≡◌, ℕ, ◌<◌, ◌≤◌, true, false, List, [], ◌∷◌, ◌++◌, refl, sym, ap, ◌∙◌, subst, arith, inl, inr, ◌⊎◌, Option, Some, None}
 use Rattle.std.specs.List.{AllByRecursion}
-use Rattle.board_rows.proofs.Words.{Xid, same_xid, Range, Record, Commits, DeedAt, scn_of, xid_of, touches, stands, of_xid, Stage, Active, Over, stage, durable_commit, on, shown, deeds_in, committed_at, is_up_to, seen_at, Board, IsLateHere, Sound, Follows, MayFollow, ended, MayTell}
+use Rattle.board_rows.proofs.Words.{Xid, same_xid, Range, Record, Commits, DeedAt, scn_of, xid_of, touches, stands, of_xid, Stage, Over, stage, durable_commit, on, shown, deeds_in, committed_at, is_up_to, seen_at, Board, IsLateHere, Sound, Follows, ended, MayTell}
 use Rattle.board_rows.proofs.Lists.{cases, all_append, all_both}
 use Rattle.board_rows.proofs.Shown.{shown-later, shown-of_xid}
 use Rattle.board_rows.proofs.TxnSteps.{stops}
@@ -18,10 +18,6 @@ Agrees _ (Some e) = ⊥
 follows-older : (newer head : List Record) → Follows (newer ++ head) → Follows head
 follows-older [] head f = f
 follows-older (r ∷ newer) head f = follows-older newer head f.1
-
--- what goes on has no end
-going : (r : Record) (st : Stage) (o : Option ℕ) → MayFollow r st → Agrees st o → Agrees Active o
-going r st o g a = grind arith
 
 ended-agrees : (x : Xid) (recs : List Record) → Follows recs → Agrees (stage x recs) (ended x recs)
 ended-agrees x [] f = tt
@@ -65,9 +61,6 @@ module _ (asked : ℕ → Option Range) (insts : ℕ) (b : Board) (sound : Sound
   -- what the journal has of it
   seen-is : (st : Stage) → stage x b.records ≡ st → seen_at s (λ y. committed_at y b.past) x ≡ is_up_to s (durable_commit (b.durable x.seg) st)
   seen-is st e = ap (is_up_to s) ((sound.txns.each x).commits ∙ ap (durable_commit (b.durable x.seg)) e)
-
-  not-seen : (c : ℕ) → s < c → is_up_to s (durable_commit (b.durable x.seg) (Over (Some c))) ≡ false
-  not-seen c lt = grind arith
 
   -- by its stage now, where its end is above s
   not-yet : (st : Stage) → stage x b.records ≡ st → is_up_to s (ended x head) ≡ false → ((c : ℕ) → st ≡ Over (Some c) → s < c) → IsTold

@@ -20,7 +20,7 @@ use Rattle.board_rows.proofs.Owns.{under-up, under-committed-more, under-fresh-a
 use Rattle.board_rows.proofs.LateSteps.{late-reads, late-raises, late-changes, late-back, late-marks, late-rolls, late-settles}
 use Rattle.board_rows.proofs.Look.{changes-free, own-is, live-new, live-low, look-sees, look-late, change-sees, OfRec, stands-from}
 use Rattle.board_rows.proofs.AnswerSteps.{each-read, scan-read, answers-same, settled-same, unread-seen, anew-at, scan-reads, by_own}
-use Rattle.board_rows.proofs.SessionSteps.{none-stood, some-stood, row-free, push-proper, push-answers, sessions-changes, sessions-ends, starts-starts, starts-acks, starts-proper, starts-joins, starts-ups}
+use Rattle.board_rows.proofs.SessionSteps.{none-stood, some-stood, row-free, sessions-changes, sessions-ends, starts-starts, starts-acks, starts-proper, starts-joins, starts-ups}
 
 module _ (asked : ℕ → Option Range) (insts : ℕ) (b : Board) (sound : Sound asked insts b) where
   abbrev told_at : Xid → Option ℕ
@@ -91,7 +91,7 @@ module _ (asked : ℕ → Option Range) (insts : ℕ) (b : Board) (sound : Sound
   keeps-answers n z may = grind arith
 
   pub keeps-acks : (n c : ℕ) (x : Xid) → MayAck insts b n c x → Sound asked insts (after b (Events.acks n c x))
-  keeps-acks n c x may = grind (arith, cases, starts-acks, push-answers, push-proper, some-stood)
+  keeps-acks n c x may = grind (arith, cases, starts-acks, some-stood)
 
   drawn-at : (newer : List Record) (r : Record) (there : List Record) → b.records ≡ newer ++ r ∷ there → scn_of r ≤ b.clock (thread_of r)
   drawn-at newer r there place = (all_append (λ r. scn_of r ≤ b.clock (thread_of r)) newer (r ∷ there) (subst (AllByRecursion (λ r. scn_of r ≤ b.clock (thread_of r))) place sound.clocks.drawn)).1.0

@@ -1,17 +1,14 @@
 -- What a loss leaves of the board.
 use Rattle.board_rows.proofs.Lists.{cases}
-use Rattle.std.proofs.Common.{◌≡◌, ◌≢◌, ℕ, ◌<◌, ◌≤◌, Bool, true, false, ◌==◌, leb, List, [], ◌∷◌, refl, sym, ◌∙◌, arith, inr, Option, Some}
+use Rattle.std.proofs.Common.{◌≡◌, ◌≢◌, ℕ, ◌<◌, ◌≤◌, Bool, true, false, ◌==◌, leb, List, [], ◌∷◌, refl, sym, arith, inr, Option, Some}
 use Rattle.std.specs.List.{AllByRecursion, filter}
-use Rattle.std.proofs.lemmas.Bool.{eq-eqb, eqb-true}
+use Rattle.std.proofs.lemmas.Bool.{eq-eqb}
 use Rattle.std.proofs.lemmas.Bool.Decides.{nat_tests}
 use Rattle.board_rows.proofs.Words.{Xid, same_xid, same_xid-true, EachPair, Record, Commits, DeedAt, thread_of, scn_of, xid_of, without, stands_after, stands, of_xid, Fresh, Over, stage, Rising, is_kept, AreNear, LosesNewest, Follows}
-use Rattle.board_rows.proofs.Lists.{cases, pair_both, pair_filter, all_map, all_of, clash}
+use Rattle.board_rows.proofs.Lists.{cases, pair_both, all_map, all_of}
 use Rattle.board_rows.proofs.RowSteps.{of_xid-without}
 use Rattle.board_rows.proofs.TxnSteps.{stops}
 use Rattle.board_rows.proofs.LateSteps.{all-used}
-
-pub eqb-sym : (a b : ℕ) → (a == b) ≡ false → (b == a) ≡ false
-eqb-sym a b e = grind arith
 
 -- nothing stands of a fresh transaction
 pub fresh-none : (x : Xid) (recs : List Record) → stage x recs ≡ Fresh → of_xid x (stands recs) ≡ []
@@ -61,12 +58,10 @@ module _ (i kept : ℕ) where
   older-kept r o k f e = grind arith
 
   pub keeps-under : (recs : List Record) → Rising recs → LosesNewest i kept recs → KeepsUnder i kept recs
-  keeps-under recs = pair_both _ _ _ recs (λ r o rises loses k near. by r o rises loses k near (thread_of r == i) refl (thread_of o == i) refl)
+  keeps-under recs = pair_both _ _ _ recs one
     where
-      by : (r o : Record) → (thread_of o ≡ thread_of r → scn_of o < scn_of r) → (thread_of r ≢ i → AreNear r o → Kept o ≡ true) → Kept r ≡ true → AreNear r o → (t : Bool) → (thread_of r == i) ≡ t → (u : Bool) → (thread_of o == i) ≡ u → Kept o ≡ true
-      by r o rises loses k near false e u f = loses (λ g. clash (thread_of r == i) (eq-eqb (thread_of r) i g) e) near
-      by r o rises loses k near true e false f = kept-other o f
-      by r o rises loses k near true e true f = kept-older r o k (rises (eqb-true (thread_of o) i f ∙ sym (eqb-true (thread_of r) i e))) (eqb-true (thread_of r) i e)
+      one : (r o : Record) → (thread_of o ≡ thread_of r → scn_of o < scn_of r) → (thread_of r ≢ i → AreNear r o → Kept o ≡ true) → Kept r ≡ true → AreNear r o → Kept o ≡ true
+      one r o rises loses k near = grind (arith, cases)
 
   -- all records of a transaction are kept
   abbrev pub AllKept : Xid → List Record → Type 0
@@ -116,6 +111,3 @@ module _ (i kept : ℕ) where
   pub follows-kept : (recs : List Record) → KeepsUnder i kept recs → Follows recs → Follows (filter Kept recs)
   follows-kept [] l f = tt
   follows-kept (r ∷ recs) l f = grind (arith, cases, stage-kept (xid_of r) recs, near-xid (xid_of r) r recs, follows-kept recs)
-
-  pub rising-kept : (recs : List Record) → Rising recs → Rising (filter Kept recs)
-  rising-kept = pair_filter _ Kept

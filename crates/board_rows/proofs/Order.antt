@@ -1,7 +1,6 @@
 -- The order of what stands on a row.
-use Rattle.std.proofs.Common.{◌≡◌, ℕ, ◌<◌, true, false, filter, ◌||◌, List, [], ◌∷◌, ap, ◌∙◌, arith, inl, ◌⊎◌, Option, Some, None, IsSomeAnd}
+use Rattle.std.proofs.Common.{◌≡◌, ℕ, ◌<◌, true, false, filter, ◌||◌, List, [], ◌∷◌, ap, ◌∙◌, arith, inl, ◌⊎◌, Option, Some, None}
 use Rattle.std.specs.List.{AllByRecursion}
-use Rattle.std.proofs.lemmas.Bool.{eqb-true}
 use Rattle.board_rows.proofs.Words.{Xid, same_xid, row_of, changes_of, Commit, DeedAt, without, EachPair, IsFree, on, shown, on_row, deeds_in, seen_at, IsOver, Ordered, IsMade}
 use Rattle.board_rows.proofs.Lists.{cases, pair_map, all_map}
 use Rattle.board_rows.proofs.Shown.{NoneOn, Ahead, none-shown, shown-alike, on_row-all, on_row-of_xid}
@@ -9,13 +8,6 @@ use Rattle.board_rows.proofs.Table.{OneMore, IsClear}
 
 pub same_xid-sym : (x y : Xid) → same_xid x y ≡ same_xid y x
 same_xid-sym x y = grind arith
-
--- two on one row
-pub on-both : (k : ℕ) (m o : DeedAt) → on k m ≡ true → on k o ≡ true → on (row_of m.deed) o ≡ true
-on-both k m o a b = rw (eqb-true (row_of m.deed) k a) b
-
-pub no-commit : (o : Option ℕ) (P : ℕ → Type 0) → o ≡ None → IsSomeAnd o P → ⊥
-no-commit o P e h = rw e at h
 
 -- under a change of another stands nothing of a transaction that isn't committed
 pub none-under : (k : ℕ) (x : Xid) (committed : Xid → Option ℕ) (m : DeedAt) (os : List DeedAt) → committed x ≡ None → same_xid m.xid x ≡ false → on k m ≡ true → AllByRecursion (IsOver committed m) os → NoneOn k (same_xid x) os

@@ -2,7 +2,7 @@
 use Rattle.std.proofs.Common.{◌≡◌, ℕ, ◌<◌, ◌≤◌, Bool, true, false, cond, ◌==◌, max, List, [], ◌∷◌, refl, sym, ap, ◌∙◌, arith, inl, inr, ◌⊎◌, Option, Some, None, IsSomeAnd}
 use Rattle.std.specs.Option.{option_map_or}
 use Rattle.std.specs.List.{AllByRecursion, list_any}
-use Rattle.board_rows.proofs.Words.{Xid, Entry, Past, same_xid, row_of, is_open, standing, holds, stood, is_commit, is_commit_at, Commit, sees, Range, RowsAreSeen, FoundIsSeen, CommitIsProper, AckIsProper, StartIsProper, RowIsFree, both_true, DeedAt, of_xid, IsFree, deeds_in, committed_at, Scan, put, Sessions, Starts, Answers, IsProper, IsRead, ScanIsSeen, Stage, Over, Fresh, Active}
+use Rattle.board_rows.proofs.Words.{Xid, Past, same_xid, row_of, is_open, standing, holds, stood, is_commit, is_commit_at, both_true, DeedAt, of_xid, IsFree, deeds_in, committed_at, put, Sessions, Starts, Stage, Over, Fresh, Active}
 use Rattle.board_rows.proofs.Lists.{clash}
 
 -- nothing of a transaction has committed
@@ -28,18 +28,7 @@ row-free k s x past committed mods live free y h =
     let any : list_any (λ deed. row_of deed == k) (deeds_in (of_xid y mods)) ≡ true = ap (list_any (λ deed. row_of deed == k)) (sym is.1) ∙ parts.1 in
     elim (any-on k s x y committed mods any free) [ inl e ↦ e | inr l ↦ absurd (rw is.0 at l) ]
 
--- one more entry
-pub push-proper : {past : Past} (e : Entry) → IsProper past → CommitIsProper past e → AckIsProper past e → StartIsProper past e → RowIsFree past e → IsProper (e ∷ past)
-push-proper e h c a s r = record { commits = (c, h.commits); acknowledgements = (a, h.acknowledgements); starts = (s, h.starts); row_locks = (r, h.row_locks) }
-
-pub push-answers : {asked : ℕ → Option Range} {floor : ℕ → ℕ} {old : ℕ → Scan} {past : Past} {commits : List Commit} (now : ℕ → Scan) (e : Entry) → Answers asked floor old past commits → RowsAreSeen asked commits past e → FoundIsSeen commits past e → IsRead asked floor past e
-    → ((z : ℕ) → ScanIsSeen floor (now z) (λ s. sees commits (e ∷ past) (record { session = z; snapshot = s }))) → Answers asked floor now (e ∷ past) commits
-push-answers now e h r f i scans = record { rows = (r, h.rows); found = (f, h.found); read = (i, h.read); scans = scans }
-
 module _ {stage_of : Xid → Stage} {last : ℕ → Option Xid} {home : ℕ → Option ℕ} (h : Sessions stage_of last home) where
-  pub sessions-opens : (z i : ℕ) → home z ≡ None → Sessions stage_of last (λ y. cond (y == z) (Some i) (home y))
-  sessions-opens z i new = grind arith
-
   -- a session's last transaction is x, its own before or a new one
   pub sessions-changes : (z : ℕ) (x : Xid) → (last z ≡ Some x) ⊎ (stage_of x ≡ Fresh) → home z ≡ Some x.seg → Sessions (λ y. cond (same_xid y x) Active (stage_of y)) (λ y. cond (z == y) (Some x) (last y)) home
   sessions-changes z x mine is = grind arith
@@ -49,12 +38,6 @@ module _ {stage_of : Xid → Stage} {last : ℕ → Option Xid} {home : ℕ → 
   sessions-ends x o = record { used = λ y w e. grind (arith, h.used y w e); single = h.single; at_home = h.at_home }
 
 module _ {insts : ℕ} {known : ℕ → ℕ} {home : ℕ → Option ℕ} {started : ℕ → ℕ} {came up : ℕ → Bool} {acked : ℕ} (h : Starts insts known home started came up acked) where
-  pub starts-opens : (z i : ℕ) → home z ≡ None → i < insts → Starts insts known (λ y. cond (y == z) (Some i) (home y)) started (λ y. cond (y == z) false (came y)) up acked
-  starts-opens z i new low = grind arith
-
-  pub starts-learns : (i e : ℕ) → Starts insts (put known i (max (known i) e)) home started came up acked
-  starts-learns i e = grind arith
-
   -- a statement starts at what its instance knows then
   pub starts-starts : (z i e : ℕ) → home z ≡ Some i → came z ≡ false → Starts insts (put known i (max (known i) e)) home (λ y. cond (y == z) (max (max (known i) e) (started y)) (started y)) came up acked
   starts-starts z i e = grind arith

@@ -2,7 +2,7 @@
 use Rattle.board_rows.proofs.Lists.{cases}
 use Rattle.std.proofs.Common.{◌≡◌, ℕ, Bool, true, false, ◌||◌, ◌==◌, List, [], ◌∷◌, ◌++◌, refl, ap, ◌∙◌, arith}
 use Rattle.std.specs.List.{AllByRecursion}
-use Rattle.board_rows.proofs.Words.{Xid, same_xid, Deed, row_of, changes_of, DeedAt, Record, stands, without, xid_of, is_that, touches, of_xid, on, shown, on_row, deeds_in}
+use Rattle.board_rows.proofs.Words.{Xid, same_xid, Deed, changes_of, DeedAt, Record, stands, without, xid_of, touches, of_xid, on, shown, on_row, deeds_in}
 use Rattle.board_rows.proofs.Lists.{cases, all_of}
 
 -- none of these is on the row
@@ -38,10 +38,6 @@ shown-same k p q mods h = shown-alike k p q mods (all_of (λ m. on k m ≡ true 
 -- one more that isn't seen
 pub shown-hidden : (k : ℕ) (p : Xid → Bool) (m : DeedAt) (mods : List DeedAt) → (on k m ≡ true → p m.xid ≡ false) → shown k p (m ∷ mods) ≡ shown k p mods
 shown-hidden k p m mods h = grind arith
-
--- what a step back names
-pub that-is : (x : Xid) (seq row : ℕ) (m : DeedAt) → is_that x seq row m ≡ true → (x ≡ m.xid) × (row ≡ row_of m.deed)
-that-is x seq row m h = grind arith
 
 -- taking back what isn't seen, or is on another row
 pub shown-without : (k : ℕ) (p : Xid → Bool) (x : Xid) (seq row : ℕ) (mods : List DeedAt) → ((row == k) ≡ true → p x ≡ false) → shown k p (without x seq row mods) ≡ shown k p mods
