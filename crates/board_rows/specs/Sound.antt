@@ -71,8 +71,8 @@ pub record Txns (records : List Record) (durable : ℕ → ℕ) (stand : Xid →
   pub apart : (scn inst : ℕ) → durable inst < scn → has_commit scn inst ≡ false
 
 -- The transactions of an instance that is up are open until they end, and those of one that is down aren't open; what
--- other threads have for the segment of an instance that is up has entered. So it has for a segment that has a change or
--- lock above it: no loss takes it away.
+-- other threads have for the segment of an instance that is up has entered. Under a change or lock each record that
+-- another thread has for its segment has entered, so no loss takes it away.
 pub record Segments (records : List Record) (durable : ℕ → ℕ) (live : Xid → Bool) (up : ℕ → Bool) : Type 0 where
   pub lives : (xid : Xid) → live xid ≡ true → up xid.seg ≡ true
   pub active : (xid : Xid) → stage xid records ≡ Active → up xid.seg ≡ true → live xid ≡ true
