@@ -1,28 +1,9 @@
 -- What was answered stays right, and what is being read too.
-use Rattle.std.proofs.Common.{◌≡◌, ℕ, zero, suc, ◌+◌, ◌<◌, ◌≤◌, Bool, true, false, cond, ◌==◌, leb, max, List, [], ◌∷◌, ◌++◌, refl, sym, ap, ◌∙◌, subst, arith, inl, inr, ◌⊎◌}
-use Rattle.std.specs.Prelude.{Option, Some, None, IsSomeAnd}
-use Rattle.std.specs.Option.{option_and_then, option_map_or}
+use Rattle.std.proofs.Common.{◌≡◌, ℕ, zero, suc, ◌+◌, ◌<◌, ◌≤◌, Bool, true, max, List, [], ◌∷◌, ◌++◌, refl, ap, ◌∙◌, arith, inl, ◌⊎◌, Option, Some, None, IsSomeAnd}
 use Rattle.std.specs.List.{AllByRecursion}
-use Rattle.std.proofs.lemmas.Bool.{eq-eqb, eqb-true, lt-leb}
-use Rattle.base_types.specs.declared.names.Xid.{Xid}
-use Rattle.base_types.specs.declared.value.Value.{Value}
-use Rattle.base_types.specs.declared.value.Value.TheVariants.{Absent, Num}
-use Rattle.journal.specs.declared.entry.Entry.{Entry}
-use Rattle.journal.specs.declared.entry.Entry.TheVariants.{Rows, Changed}
-use Rattle.journal.specs.declared.deeds.Start.{Start}
-use Rattle.journal.specs.Past.{Past, Each, same_xid, start_of}
-use Rattle.journal.specs.declared.deeds.Change.{Change}
-use Rattle.journal.specs.Standing.{row_of, changes_of, standing, is_open}
-use Rattle.journal.specs.declared.deeds.Commit.{Commit}
-use Rattle.journal.specs.History.{entered, changes_up_to, value_by}
-use Rattle.journal.specs.Sees.{sees, last_of, own_changes}
-use Rattle.journal.specs.Good.{Range, listed, listed_before, RowsAreSeen, FoundIsSeen}
-use Rattle.journal.proofs.XidLemmas.{same_xid-true}
-use Rattle.board_rows.specs.Board.{Record, DeedAt, stands, of_xid, Over, stage}
-use Rattle.board_rows.specs.Rows.{on, on_row, deeds_in}
-use Rattle.board_rows.specs.Events.{Scan, put, unread, anew, read_on}
-use Rattle.board_rows.specs.Sound.{RowsAreLate, RowsStand, AreRead, IsRead, ScanIsSeen, Answers}
-use Rattle.board_rows.proofs.Shown.{NoneOn, clash, none-shown, on_row-of_xid}
+use Rattle.board_rows.proofs.Words.{Xid, Value, Entry, Rows, Start, Past, Each, same_xid, start_of, Change, changes_of, standing, is_open, Commit, entered, changes_up_to, value_by, sees, last_of, own_changes, Range, listed, listed_before, RowsAreSeen, FoundIsSeen, Record, DeedAt, stands, of_xid, Over, stage, on_row, deeds_in, Scan, put, unread, anew, read_on, RowsAreLate, RowsStand, AreRead, IsRead, ScanIsSeen, Answers}
+use Rattle.board_rows.proofs.Lists.{cases}
+use Rattle.board_rows.proofs.Shown.{NoneOn, none-shown, on_row-of_xid}
 use Rattle.board_rows.proofs.Table.{row-entered}
 use Rattle.board_rows.proofs.Replay.{value-below}
 use Rattle.board_rows.proofs.RowSteps.{rows-clear}
@@ -43,8 +24,7 @@ listed-more v row (suc count) =
     ∙ before (v row) (listed v (row + 1) count) (listed_before (row + suc count) (v (row + suc count)) [])
   where
     before : (x : Value) (xs ys : List (ℕ × Value)) → listed_before row x (xs ++ ys) ≡ listed_before row x xs ++ ys
-    before Absent xs ys = refl
-    before (Num n) xs ys = refl
+    before x xs ys = grind arith
 
 pub each_map : (P Q : Past → Entry → Type 0) → ((past : Past) (e : Entry) → P past e → Q past e) → (past : Past) → Each P past → Each Q past
 each_map P Q f [] h = tt
@@ -56,21 +36,7 @@ each_both P Q R f (e ∷ past) h i = (f past e h.0 i.0, each_both P Q R f past h
 
 -- what was read stays read
 pub each-read : (asked : ℕ → Option Range) (floor now : ℕ → ℕ) → ((k : ℕ) → floor k ≤ now k) → (past : Past) → Each (IsRead asked floor) past → Each (IsRead asked now) past
-each-read asked floor now up past = each_map (IsRead asked floor) (IsRead asked now) one past
-  where
-    one : (past : Past) (e : Entry) → IsRead asked floor past e → IsRead asked now past e
-    one past (Rows n rows) = two (asked n) (start_of n past)
-      where
-        two : (o : Option Range) (p : Option Start) → IsSomeAnd o (λ range. IsSomeAnd p (λ start. AreRead floor start.snapshot range.first range.count)) → IsSomeAnd o (λ range. IsSomeAnd p (λ start. AreRead now start.snapshot range.first range.count))
-        two (Some range) (Some start) h = λ k low high. (let a = h k low high in let b = up k in omega arith)
-        two (Some range) None h = h
-        two None p h = h
-    one past (Changed n x row found new) = two (start_of n past)
-      where
-        two : (p : Option Start) → IsSomeAnd p (λ start. start.snapshot ≤ floor row) → IsSomeAnd p (λ start. start.snapshot ≤ now row)
-        two (Some start) h = let b = up row in omega (arith, h)
-        two None h = h
-    one past _ = λ h. h
+each-read asked floor now up past = grind (arith, cases, each_map)
 
 pub scan-read : (floor now : ℕ → ℕ) → ((k : ℕ) → floor k ≤ now k) → (scan : Scan) (value : ℕ → ℕ → Value) → ScanIsSeen floor scan value → ScanIsSeen now scan value
 scan-read floor now up scan value h = record { seen = h.seen; read = λ k low high. (let a = h.read k low high in let b = up k in omega arith) }
@@ -80,34 +46,26 @@ module _ (asked : ℕ → Option Range) (floor : ℕ → ℕ) (old new : List Co
   sees-same : (past : Past) (start : Start) (k : ℕ) → start.snapshot ≤ floor k → sees old past start k ≡ sees new past start k
   sees-same past start k le = value-below k (own_changes start.session past) (changes_up_to start.snapshot old) (changes_up_to start.snapshot new) (same start.snapshot k le)
 
+  rows-same : (items : List (ℕ × Value)) (past : Past) (o : Option Range) (p : Option Start) → IsSomeAnd o (λ range. IsSomeAnd p (λ start. AreRead floor start.snapshot range.first range.count))
+      → IsSomeAnd o (λ range. IsSomeAnd p (λ start. items ≡ listed (sees old past start) range.first range.count)) → IsSomeAnd o (λ range. IsSomeAnd p (λ start. items ≡ listed (sees new past start) range.first range.count))
+  rows-same items past (Some range) (Some start) r e = e ∙ listed-alike (sees old past start) (sees new past start) range.first range.count (λ k low high. sees-same past start k (r k low high))
+  rows-same items past (Some range) None r e = e
+  rows-same items past None p r e = e
+
+  rows-seen : (past : Past) (e : Entry) → IsRead asked floor past e → RowsAreSeen asked old past e → RowsAreSeen asked new past e
+  rows-seen past (Rows n items) = rows-same items past (asked n) (start_of n past)
+  rows-seen past _ = λ r e. e
+
+  found-seen : (past : Past) (e : Entry) → IsRead asked floor past e → FoundIsSeen old past e → FoundIsSeen new past e
+  found-seen past e r f = grind (arith, sees-same past)
+
   pub answers-same : (scan : ℕ → Scan) (past : Past) → Answers asked floor scan past old → Answers asked floor scan past new
   answers-same scan past h = record {
-    rows = each_both (IsRead asked floor) (RowsAreSeen asked old) (RowsAreSeen asked new) rows past h.read h.rows;
-    found = each_both (IsRead asked floor) (FoundIsSeen old) (FoundIsSeen new) found past h.read h.found;
+    rows = each_both _ _ _ rows-seen past h.read h.rows;
+    found = each_both _ _ _ found-seen past h.read h.found;
     read = h.read;
-    scans = λ z. record {
-      seen = (h.scans z).seen ∙ listed-alike (sees old past (record { session = z; snapshot = (scan z).snapshot })) (sees new past (record { session = z; snapshot = (scan z).snapshot })) (scan z).first (scan z).count (λ k low high. sees-same past (record { session = z; snapshot = (scan z).snapshot }) k ((h.scans z).read k low high));
-      read = (h.scans z).read;
-    };
+    scans = λ z. record { seen = (h.scans z).seen ∙ listed-alike _ _ (scan z).first (scan z).count (λ k low high. sees-same past (record { session = z; snapshot = (scan z).snapshot }) k ((h.scans z).read k low high)); read = (h.scans z).read };
   }
-    where
-      rows : (past : Past) (e : Entry) → IsRead asked floor past e → RowsAreSeen asked old past e → RowsAreSeen asked new past e
-      rows past (Rows n items) = two (asked n) (start_of n past)
-        where
-          two : (o : Option Range) (p : Option Start) → IsSomeAnd o (λ range. IsSomeAnd p (λ start. AreRead floor start.snapshot range.first range.count))
-              → IsSomeAnd o (λ range. IsSomeAnd p (λ start. items ≡ listed (sees old past start) range.first range.count)) → IsSomeAnd o (λ range. IsSomeAnd p (λ start. items ≡ listed (sees new past start) range.first range.count))
-          two (Some range) (Some start) r e = e ∙ listed-alike (sees old past start) (sees new past start) range.first range.count (λ k low high. sees-same past start k (r k low high))
-          two (Some range) None r e = e
-          two None p r e = e
-      rows past _ = λ r e. e
-
-      found : (past : Past) (e : Entry) → IsRead asked floor past e → FoundIsSeen old past e → FoundIsSeen new past e
-      found past (Changed n x row before value) = two (start_of n past)
-        where
-          two : (p : Option Start) → IsSomeAnd p (λ start. start.snapshot ≤ floor row) → IsSomeAnd p (λ start. before ≡ sees old past start row) → IsSomeAnd p (λ start. before ≡ sees new past start row)
-          two (Some start) r e = e ∙ sees-same past start row r
-          two None r e = e
-      found past _ = λ r e. e
 
 -- the commit that becomes durable leaves what was read
 module _ (recs : List Record) (scn floor : ℕ → ℕ) (live : Xid → Bool) {committed : Xid → Option ℕ} {commits : List Commit} (x : Xid) (a : Commit)
@@ -115,45 +73,14 @@ module _ (recs : List Record) (scn floor : ℕ → ℕ) (live : Xid → Bool) {c
     (below : AllByRecursion (λ m. same_xid x m.xid ≡ true → m.scn < a.commit_scn) (stands recs)) (late : RowsAreLate recs scn floor live committed) (rows : RowsStand recs committed commits) where
   none-or-above : (k : ℕ) (mods : List DeedAt) → AllByRecursion (Late recs scn floor live committed) mods → NoneOn k (same_xid x) mods ⊎ (floor k < a.commit_scn)
   none-or-above k [] h = inl tt
-  none-or-above k (m ∷ mods) h = here (on k m) refl (same_xid x m.xid) refl (none-or-above k mods h.1)
-    where
-      here : (o : Bool) → on k m ≡ o → (t : Bool) → same_xid x m.xid ≡ t → NoneOn k (same_xid x) mods ⊎ (floor k < a.commit_scn) → ((on k m ≡ true → same_xid x m.xid ≡ false) × NoneOn k (same_xid x) mods) ⊎ (floor k < a.commit_scn)
-      here o e t f (inr lt) = inr lt
-      here false e t f (inl n) = inl ((λ y. clash (on k m) y e), n)
-      here true e false f (inl n) = inl ((λ y. f), n)
-      here true e true f (inl n) =
-          let same : m.xid ≡ x = sym (same_xid-true x m.xid f) in
-          let none : committed m.xid ≡ None = rw same new in
-          let over : stage m.xid recs ≡ Over (Some a.commit_scn) = rw same is in
-          let l = h.0 none in
-          let lt : floor (row_of m.deed) < a.commit_scn = rw over at l in
-          inr (rw (sym (eqb-true (row_of m.deed) k e)) lt)
+  none-or-above k (m ∷ mods) h = grind (arith, none-or-above k mods h.1)
 
   pub settled-same : (s k : ℕ) → s ≤ floor k → on_row k (changes_up_to s commits) ≡ on_row k (changes_up_to s (entered a commits))
-  settled-same s k le = sym (row-entered k s a commits (rows-clear rows x a new marked below) ∙ ap (λ cs. cs ++ on_row k (changes_up_to s commits)) none)
-    where
-      nothing : (t : Bool) → on_row k a.changes ≡ [] → on_row k (cond t a.changes []) ≡ []
-      nothing true e = e
-      nothing false e = refl
-
-      none : on_row k (cond (leb a.commit_scn s) a.changes []) ≡ []
-      none = elim (none-or-above k (stands recs) late) [
-        | inl n ↦ nothing (leb a.commit_scn s) (ap (on_row k) marked ∙ (on_row-of_xid k x (stands recs) ∙ ap changes_of (none-shown k (same_xid x) (stands recs) n)))
-        | inr lt ↦ ap (λ t. on_row k (cond t a.changes [])) (lt-leb a.commit_scn s (omega (arith, lt, le)))
-      ]
+  settled-same s k le = grind (arith, cases, row-entered, rows-clear, none-or-above, on_row-of_xid, none-shown)
 
 -- what a session's own transaction did is the same after entries of others
 pub own-other : (past now : Past) (z : ℕ) → last_of z now ≡ last_of z past → ((y : Xid) → last_of z past ≡ Some y → (is_open y now ≡ is_open y past) × (standing y now ≡ standing y past)) → own_changes z now ≡ own_changes z past
-own-other past now z e same = rw e (go (last_of z past) refl)
-  where
-    go : (o : Option Xid) → last_of z past ≡ o
-        → option_map_or (λ x. changes_of (standing x now)) (option_and_then (λ x. cond (is_open x now) (Some x) None) o) [] ≡ option_map_or (λ x. changes_of (standing x past)) (option_and_then (λ x. cond (is_open x past) (Some x) None) o) []
-    go None f = refl
-    go (Some y) f = let s = same y f in rw (s.0) (by_open (is_open y past) s.1)
-      where
-        by_open : (t : Bool) → standing y now ≡ standing y past → option_map_or (λ x. changes_of (standing x now)) (cond t (Some y) None) [] ≡ option_map_or (λ x. changes_of (standing x past)) (cond t (Some y) None) []
-        by_open true s = ap changes_of s
-        by_open false s = refl
+own-other past now z e same = grind arith
 
 module _ (floor : ℕ → ℕ) (commits : List Commit) where
   -- what a session sees, by its own changes
@@ -163,23 +90,10 @@ module _ (floor : ℕ → ℕ) (commits : List Commit) where
   pub unread-seen : (s first : ℕ) (value : ℕ → ℕ → Value) → ScanIsSeen floor (unread s first) value
   unread-seen s first value = record { seen = refl; read = λ k low high. absurd (omega (arith, low, high)) }
 
-  pub scan-anew : (t : Bool) (scan : Scan) (mine now : List Change) → (t ≡ false → now ≡ mine) → ScanIsSeen floor scan (by_own mine) → ScanIsSeen floor (anew t scan) (by_own now)
-  scan-anew true scan mine now e h = unread-seen scan.snapshot scan.first (by_own now)
-  scan-anew false scan mine now e h = subst (λ own. ScanIsSeen floor scan (by_own own)) (sym (e refl)) h
-
   -- one more row is read
   pub scan-reads : (scan : Scan) (k : ℕ) (value : ℕ → ℕ → Value) → k ≡ scan.first + scan.count → ScanIsSeen floor scan value → ScanIsSeen (put floor k (max (floor k) scan.snapshot)) (read_on scan (value scan.snapshot k)) value
-  scan-reads scan k value is h = record {
-    seen = rw is (ap (λ rows. rows ++ listed_before (scan.first + scan.count) (value scan.snapshot (scan.first + scan.count)) []) h.seen ∙ sym (listed-more (value scan.snapshot) scan.first scan.count));
-    read = λ j low high. put-all (λ j n. j < scan.first + suc scan.count → scan.first ≤ j → scan.snapshot ≤ n) floor k (max (floor k) scan.snapshot) (λ _ _. omega arith) (λ j off high low. h.read j low (below j off high)) j high low;
-  }
-    where
-      below : (j : ℕ) → (k == j) ≡ false → j < scan.first + suc scan.count → j < scan.first + scan.count
-      below j off high =
-          let differ : k ≡ j → ⊥ = (λ e. clash (k == j) (eq-eqb k j e) off) in
-          omega (arith, is, high, differ)
+  scan-reads scan k value is h = grind (arith, cases, listed-more, put-all)
 
 -- what is read anew is read at the same snapshot
 pub anew-at : (t : Bool) (scan : Scan) → (anew t scan).snapshot ≡ scan.snapshot
-anew-at true scan = refl
-anew-at false scan = refl
+anew-at t scan = grind arith

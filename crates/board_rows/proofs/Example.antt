@@ -1,21 +1,10 @@
 -- Runs that meet the premises. The first: a put and its commit, a scan on the other instance, a put there over it that
 -- a crash leaves, its rollback by the first instance, and a scan over an older image once the other is back. The second:
 -- a commit record and a put that a crash loses, a rollback of what was kept, and the lost put's transaction anew.
-use Rattle.std.proofs.Common.{◌≡◌, ◌≢◌, ℕ, zero, suc, ◌<◌, ◌≤◌, Bool, true, false, cond, List, [], ◌∷◌, refl, sym, arith, inl, inr}
-use Rattle.std.specs.Prelude.{Option, Some, None, pos}
+use Rattle.std.proofs.Common.{◌≡◌, ℕ, true, false, List, [], ◌∷◌, refl, arith, Option, Some, pos}
 use Rattle.std.proofs.lemmas.Bool.{false≢true}
-use Rattle.base_types.specs.declared.names.Xid.{Xid}
-use Rattle.base_types.specs.declared.value.Value.TheVariants.{Absent, Num}
-use Rattle.journal.specs.declared.entry.Entry.{Entry}
-use Rattle.journal.specs.declared.entry.Entry.TheVariants.{Opened, Started, Rows, Changed, Locked, Marked, Committed, Acked, Undone, Rolled, Crashed, Ended, Up}
-use Rattle.journal.specs.declared.deeds.Deed.{Deed}
-use Rattle.journal.specs.declared.deeds.Deed.TheVariants.{Changes, Locks}
-use Rattle.journal.specs.Past.{same_xid}
-use Rattle.journal.specs.Good.{Range}
-use Rattle.board_rows.specs.Board.{Record, Does, TakesBack, Commits, RollsBack, DeedAt, Fresh, Active, Over}
+use Rattle.board_rows.proofs.Words.{Xid, Absent, Num, Entry, Opened, Started, Rows, Changed, Locked, Marked, Committed, Acked, Undone, Rolled, Crashed, Ended, Up, Deed, Changes, Locks, Range, Record, Does, TakesBack, Commits, RollsBack, DeedAt, Board, Event, Crash, Fault, after, nothing, Leads, MayTell}
 use Rattle.board_rows.specs.Events
-use Rattle.board_rows.specs.Events.{Board, Event, Crash, Fault, after, nothing, Leads}
-use Rattle.board_rows.specs.Headers.{MayTell}
 
 asked : ℕ → Option Range
 asked n = Some (record { first = 0; count = 2 })
@@ -86,24 +75,9 @@ events =
     ∷ Events.answers 5 2
     ∷ []
 
-heard : (j : ℕ) → j < 2 → 2 ≤ Events.put (Events.put (Events.put (Events.put nothing.known 0 0) 0 0) 0 2) 1 2 j
-heard zero low = omega arith
-heard (suc zero) low = omega arith
-heard (suc (suc j)) low = absurd (omega arith)
-
--- each transaction is over, or has no record
-rolled : (w : Xid) (t : Bool) → cond t (Over None) (cond t Active Fresh) ≢ Active
-rolled w true e = (cc)
-rolled w false e = (cc)
-
-ended : (w : Xid) (t u : Bool) → cond u (Over None) (cond u Active (cond t (Over (Some 2)) (cond t Active Fresh))) ≢ Active
-ended w t true e = (cc)
-ended w true false e = (cc)
-ended w false false e = (cc)
-
 run : Leads asked 2 nothing events (ends_at nothing events)
 unfolding asked
-run = (record { new = refl; within = omega arith }, (record { new = refl; within = omega arith }, (record { home = refl; up = refl; stays = refl; low = omega arith }, (record { started = refl; home = refl; up = refl; low = omega arith; mine = inr (refl, refl, refl); next = refl; last = refl; newest = tt; floor = omega arith; found = refl }, (record { home = refl; up = refl; stays = refl; low = omega arith }, (refl, (record { place = refl; new = omega arith; first = tt }, (record { place = refl; new = omega arith; first = ((λ e. omega arith), tt) }, (omega arith, (tt, (omega arith, (record { mark = refl; commit = refl; durable = omega arith; heard = λ j low is. heard j low }, (record { home = refl; up = refl; stays = refl; low = omega arith }, (record { look = record { home = refl; low = omega arith; image = refl; later = tt; told = ((λ a. inr (refl, λ none. (cc))), tt) }; next = refl }, (record { look = record { home = refl; low = omega arith; image = refl; later = tt; told = ((λ a. absurd (false≢true a)), tt) }; next = refl }, (record { started = refl; range = refl }, (record { home = refl; up = refl; stays = refl; low = omega arith }, (record { started = refl; home = refl; up = refl; low = omega arith; mine = inr (refl, refl, refl); next = refl; last = refl; newest = ((λ a. inr (omega arith)), λ e. tt); floor = omega arith; found = refl }, (record { place = refl; new = omega arith; first = ((λ e. omega arith), ((λ e. omega arith), tt)) }, (record { durable = omega arith; newest = ((λ e. absurd (e refl)), ((λ e. ((λ n. refl), tt)), ((λ e. tt), tt))) }, (record { may = (refl, λ e. absurd (false≢true e)); taken = m; rest = []; newest = refl; number = refl; place = refl; stays = λ e. refl }, (record { may = (refl, λ e. absurd (false≢true e)); none = refl }, (record { place = refl; new = omega arith; first = ((λ e. omega arith), ((λ e. omega arith), ((λ e. omega arith), tt))) }, (record { place = refl; new = omega arith; first = ((λ e. omega arith), ((λ e. omega arith), ((λ e. omega arith), ((λ e. omega arith), tt)))) }, (record { down = refl; durable = omega arith; drawn = ((λ e. omega arith), ((λ e. omega arith), ((λ e. omega arith), ((λ e. omega arith), ((λ e. omega arith), tt))))); low = omega arith }, (record { heard = omega arith; ended = λ w e. ended w (same_xid w x) (same_xid w y); safe = ((λ e. inr (omega arith)), ((λ e. inr (omega arith)), ((λ e. inl refl), ((λ e. inl refl), ((λ e. inl refl), tt))))) }, (record { new = refl; within = omega arith }, (record { home = refl; up = refl; stays = refl; low = omega arith }, (record { look = record { home = refl; low = omega arith; image = refl; later = ((λ a. absurd (false≢true a)), ((λ a. (omega arith, refl)), ((λ a. (omega arith, refl)), tt))); told = ((λ a. inr (refl, λ none. (cc))), tt) }; next = refl }, (record { look = record { home = refl; low = omega arith; image = refl; later = ((λ a. absurd (false≢true a)), ((λ a. absurd (false≢true a)), ((λ a. absurd (false≢true a)), tt))); told = ((λ a. absurd (false≢true a)), tt) }; next = refl }, (record { started = refl; range = refl }, refl)))))))))))))))))))))))))))))))
+run = (grind arith, (grind arith, (grind arith, (grind arith, (grind arith, (refl, (grind arith, (grind arith, (omega arith, (tt, (omega arith, (grind arith, (grind arith, (grind arith, (grind arith, (grind arith, (grind arith, (grind arith, (grind arith, (grind arith, (record { may = (refl, λ e. absurd (false≢true e)); taken = m; rest = []; newest = refl; number = refl; place = refl; stays = λ e. refl }, (grind arith, (grind arith, (grind arith, (grind arith, (grind arith, (grind arith, (grind arith, (grind arith, (grind arith, (grind arith, refl)))))))))))))))))))))))))))))))
 
 -- what it tells, the newest entry first
 abbrev journal : List Entry
@@ -134,14 +108,7 @@ tells = refl
 
 -- a header of a later moment than the image tells of the commit
 header : MayTell (ends_at nothing events) 2 0 x newer (Commits 2 x ∷ []) (Does 1 x 1 first_deed ∷ [])
-header = record {
-  image = refl;
-  later = ((λ a. absurd (false≢true a)), ((λ a. omega arith), ((λ a. omega arith), ((λ a. absurd (false≢true a)), tt))));
-  above = ((λ c e. (cc)), ((λ c e. (cc)), ((λ c e. (cc)), tt)));
-  clock = λ e. absurd (false≢true e);
-  durable = λ e is low. (let same : 2 ≡ e = cc in rw (sym same) (omega arith));
-  last = λ e is. (cc);
-}
+header = grind arith
 
 abbrev again : List Record
 again =
@@ -181,7 +148,7 @@ losing =
 
 run-losing : Leads asked 2 nothing losing (ends_at nothing losing)
 unfolding asked
-run-losing = (record { new = refl; within = omega arith }, (record { new = refl; within = omega arith }, (record { home = refl; up = refl; stays = refl; low = omega arith }, (record { started = refl; home = refl; up = refl; low = omega arith; mine = inr (refl, refl, refl); next = refl; last = refl; newest = tt; floor = omega arith; found = refl }, (record { new = refl; within = omega arith }, (record { home = refl; up = refl; stays = refl; low = omega arith }, (record { started = refl; home = refl; up = refl; low = omega arith; mine = inr (refl, refl, refl); next = refl; last = refl; newest = ((λ a. absurd (false≢true a)), λ e. tt); floor = omega arith; found = tt }, (record { home = refl; up = refl; stays = refl; low = omega arith }, (refl, (record { durable = omega arith; newest = ((λ e. absurd (e refl)), ((λ e. absurd (e refl)), ((λ e. absurd (e refl)), tt))) }, (record { place = refl; new = omega arith; first = tt }, (record { may = (refl, λ e. absurd (false≢true e)); taken = first_mod; rest = []; newest = refl; number = refl; place = refl; stays = λ e. refl }, (record { may = (refl, λ e. absurd (false≢true e)); none = refl }, (record { place = refl; new = omega arith; first = ((λ e. omega arith), tt) }, (record { place = refl; new = omega arith; first = ((λ e. omega arith), ((λ e. omega arith), tt)) }, (record { down = refl; durable = omega arith; drawn = ((λ e. omega arith), ((λ e. omega arith), ((λ e. omega arith), tt))); low = omega arith }, (record { heard = omega arith; ended = λ w e. rolled w (same_xid w x); safe = ((λ e. inr (omega arith)), ((λ e. inr (omega arith)), ((λ e. inl refl), tt))) }, (record { new = refl; within = omega arith }, (record { home = refl; up = refl; stays = refl; low = omega arith }, (record { home = refl; up = refl; stays = refl; low = omega arith }, (record { started = refl; home = refl; up = refl; low = omega arith; mine = inr (refl, refl, refl); next = refl; last = refl; newest = tt; floor = omega arith; found = tt }, (record { home = refl; up = refl; stays = refl; low = omega arith }, (record { started = refl; home = refl; up = refl; low = omega arith; mine = inl refl; next = refl; last = refl; newest = ((λ a. inl refl), λ e. tt); floor = omega arith; found = refl }, (record { home = refl; up = refl; stays = refl; low = omega arith }, (record { look = record { home = refl; low = omega arith; image = refl; later = tt; told = ((λ a. absurd (false≢true a)), ((λ a. absurd (false≢true a)), tt)) }; next = refl }, (record { look = record { home = refl; low = omega arith; image = refl; later = tt; told = ((λ a. inl refl), ((λ a. inl refl), tt)) }; next = refl }, (record { started = refl; range = refl }, refl)))))))))))))))))))))))))))
+run-losing = (grind arith, (grind arith, (grind arith, (grind arith, (grind arith, (grind arith, (grind arith, (grind arith, (refl, (grind arith, (grind arith, (record { may = (refl, λ e. absurd (false≢true e)); taken = first_mod; rest = []; newest = refl; number = refl; place = refl; stays = λ e. refl }, (grind arith, (grind arith, (grind arith, (grind arith, (grind arith, (grind arith, (grind arith, (grind arith, (grind arith, (grind arith, (grind arith, (grind arith, (grind arith, (grind arith, (grind arith, refl)))))))))))))))))))))))))))
 
 abbrev journal-losing : List Entry
 journal-losing =

@@ -1,20 +1,11 @@
 -- A header of a later moment than the image's tells who has committed.
-use Rattle.std.proofs.Common.{◌≡◌, ℕ, ◌<◌, ◌≤◌, Bool, true, false, cond, ◌&&◌, leb, List, [], ◌∷◌, ◌++◌, refl, sym, ap, ◌∙◌, subst, arith, inl, inr, ◌⊎◌}
-use Rattle.std.specs.Prelude.{Option, Some, None}
+use Rattle.std.proofs.Common.{◌≡◌, ℕ, ◌<◌, ◌≤◌, true, false, List, [], ◌∷◌, ◌++◌, refl, sym, ap, ◌∙◌, subst, arith, inl, inr, ◌⊎◌, Option, Some, None}
 use Rattle.std.specs.List.{AllByRecursion}
-use Rattle.std.proofs.lemmas.Bool.Decides.{nat_tests}
-use Rattle.base_types.specs.declared.names.Xid.{Xid}
-use Rattle.journal.specs.Past.{same_xid}
-use Rattle.journal.specs.Good.{Range}
-use Rattle.journal.proofs.XidLemmas.{same_xid-true}
-use Rattle.board_rows.specs.Board.{Record, Does, TakesBack, Commits, RollsBack, DeedAt, scn_of, xid_of, touches, stands, of_xid, Stage, Fresh, Active, Over, stage, durable_commit}
-use Rattle.board_rows.specs.Rows.{on, shown, deeds_in, committed_at, is_up_to, seen_at}
-use Rattle.board_rows.specs.Events.{Board, IsLateHere}
-use Rattle.board_rows.specs.Sound.{Sound, Follows, MayFollow}
-use Rattle.board_rows.specs.Headers.{ended, MayTell}
-use Rattle.board_rows.proofs.Shown.{all_append, shown-later, shown-of_xid}
+use Rattle.board_rows.proofs.Words.{Xid, same_xid, Range, Record, Commits, DeedAt, scn_of, xid_of, touches, stands, of_xid, Stage, Over, stage, durable_commit, on, shown, deeds_in, committed_at, is_up_to, seen_at, Board, IsLateHere, Sound, Follows, ended, MayTell}
+use Rattle.board_rows.proofs.Lists.{cases, all_append, all_both}
+use Rattle.board_rows.proofs.Shown.{shown-later, shown-of_xid}
 use Rattle.board_rows.proofs.TxnSteps.{stops}
-use Rattle.board_rows.proofs.Losses.{after-stage, after-of_xid}
+use Rattle.board_rows.proofs.Losses.{after-of_xid}
 
 -- the end that a header has is that of the stage
 abbrev Agrees : Stage → Option ℕ → Type 0
@@ -28,80 +19,33 @@ follows-older : (newer head : List Record) → Follows (newer ++ head) → Follo
 follows-older [] head f = f
 follows-older (r ∷ newer) head f = follows-older newer head f.1
 
--- what goes on has no end
-going : (r : Record) (st : Stage) (o : Option ℕ) → MayFollow r st → Agrees st o → Agrees Active o
-going r (Over p) o g a = absurd g
-going r Active o g a = a
-going r Fresh None g a = tt
-going r Fresh (Some e) g a = a
-
 ended-agrees : (x : Xid) (recs : List Record) → Follows recs → Agrees (stage x recs) (ended x recs)
 ended-agrees x [] f = tt
-ended-agrees x (Does c y seq d ∷ recs) f = here (same_xid x y) refl (ended-agrees x recs f.1)
-  where
-    here : (t : Bool) → same_xid x y ≡ t → Agrees (stage x recs) (ended x recs) → Agrees (cond t Active (stage x recs)) (ended x recs)
-    here true e ih = going (Does c y seq d) (stage x recs) (ended x recs) (rw (same_xid-true x y e) f.0) ih
-    here false e ih = ih
-ended-agrees x (TakesBack i c y seq row ∷ recs) f = ended-agrees x recs f.1
-ended-agrees x (Commits c y ∷ recs) f = here (same_xid x y) (ended-agrees x recs f.1)
-  where
-    here : (t : Bool) → Agrees (stage x recs) (ended x recs) → Agrees (cond t (Over (Some c)) (stage x recs)) (cond t (Some c) (ended x recs))
-    here true ih = refl
-    here false ih = ih
-ended-agrees x (RollsBack i c y ∷ recs) f = here (same_xid x y) (ended-agrees x recs f.1)
-  where
-    here : (t : Bool) → Agrees (stage x recs) (ended x recs) → Agrees (cond t (Over None) (stage x recs)) (cond t (Some c) (ended x recs))
-    here true ih = tt
-    here false ih = ih
+ended-agrees x (r ∷ recs) f = grind (arith, ended-agrees x recs)
 
 -- nothing follows an end
 stays-over : (x : Xid) (o : Option ℕ) (newer head : List Record) → Follows (newer ++ head) → stage x head ≡ Over o → stage x (newer ++ head) ≡ Over o
 stays-over x o [] head f e = e
-stays-over x o (r ∷ newer) head f e = here (same_xid x (xid_of r)) refl (stays-over x o newer head f.1 e)
-  where
-    here : (t : Bool) → same_xid x (xid_of r) ≡ t → stage x (newer ++ head) ≡ Over o → stage x (r ∷ newer ++ head) ≡ Over o
-    here true g ih = absurd (stops r (stage (xid_of r) (newer ++ head)) o f.0 (rw (sym (same_xid-true x (xid_of r) g)) ih))
-    here false g ih = after-stage x r (newer ++ head) g ∙ ih
+stays-over x o (r ∷ newer) head f e = grind (arith, stays-over x o newer head f.1 e)
 
 stands-same : (x : Xid) (o : Option ℕ) (newer head : List Record) → Follows (newer ++ head) → stage x head ≡ Over o → of_xid x (stands (newer ++ head)) ≡ of_xid x (stands head)
 stands-same x o [] head f e = refl
-stands-same x o (r ∷ newer) head f e = here (same_xid x (xid_of r)) refl (stands-same x o newer head f.1 e)
-  where
-    here : (t : Bool) → same_xid x (xid_of r) ≡ t → of_xid x (stands (newer ++ head)) ≡ of_xid x (stands head) → of_xid x (stands (r ∷ newer ++ head)) ≡ of_xid x (stands head)
-    here true g ih = absurd (stops r (stage (xid_of r) (newer ++ head)) o f.0 (rw (sym (same_xid-true x (xid_of r) g)) (stays-over x o newer head f.1 e)))
-    here false g ih = after-of_xid x r (stands (newer ++ head)) g ∙ ih
+stands-same x o (r ∷ newer) head f e = grind (arith, cases, stops, stays-over, after-of_xid, stands-same x o newer head f.1 e)
 
 -- what has no deeds shows none
 none-shows : (k : ℕ) (mods : List DeedAt) → deeds_in mods ≡ [] → shown k (λ y. true) mods ≡ []
 none-shows k [] e = refl
-none-shows k (m ∷ mods) e = absurd (some e)
-  where
-    some : (m.deed ∷ deeds_in mods) ≡ [] → ⊥
-    some f = cc
+none-shows k (m ∷ mods) e = grind arith
 
 -- a commit is there, or its record came since
 commit-since : (P : Record → Type 0) (x : Xid) (c : ℕ) (newer head : List Record) → AllByRecursion P newer → stage x (newer ++ head) ≡ Over (Some c) → P (Commits c x) ⊎ (stage x head ≡ Over (Some c))
 commit-since P x c [] head h is = inr is
-commit-since P x c (r ∷ newer) head h is = here r (same_xid x (xid_of r)) refl h.0 is (commit-since P x c newer head h.1)
-  where
-    here : (r : Record) (t : Bool) → same_xid x (xid_of r) ≡ t → P r → stage x (r ∷ newer ++ head) ≡ Over (Some c) → (stage x (newer ++ head) ≡ Over (Some c) → P (Commits c x) ⊎ (stage x head ≡ Over (Some c))) → P (Commits c x) ⊎ (stage x head ≡ Over (Some c))
-    here r false e p is ih = ih (sym (after-stage x r (newer ++ head) e) ∙ is)
-    here (Does d y seq deed) true e p is ih = absurd (let bad : Active ≡ Over (Some c) = rw e at is in cc)
-    here (TakesBack j d y seq row) true e p is ih = ih is
-    here (RollsBack j d y) true e p is ih = absurd (let over : ◌≡◌ {A = Stage} (Over None) (Over (Some c)) = rw e at is in let bad : ◌≡◌ {A = Option ℕ} None (Some c) = cc in cc)
-    here (Commits d y) true e p is ih = inl (let over : ◌≡◌ {A = Stage} (Over (Some d)) (Over (Some c)) = rw e at is in let same : d ≡ c = cc in rw (sym same, same_xid-true x y e) p)
+commit-since P x c (r ∷ newer) head h is = grind (arith, commit-since P x c newer)
 
 -- a deed that stands on a row is shown there
 shown-some : (k : ℕ) (x : Xid) (m : DeedAt) (mods more : List DeedAt) → on k m ≡ true → same_xid x m.xid ≡ true → shown k (same_xid x) (more ++ m ∷ mods) ≡ [] → ⊥
-shown-some k x m mods [] a e h = absurd (some (rw (a, e) at h))
-  where
-    some : (m.deed ∷ shown k (same_xid x) mods) ≡ [] → ⊥
-    some f = cc
-shown-some k x m mods (o ∷ more) a e h = here (on k o && same_xid x o.xid) h (shown-some k x m mods more a e)
-  where
-    here : (t : Bool) → cond t (o.deed ∷ shown k (same_xid x) (more ++ m ∷ mods)) (shown k (same_xid x) (more ++ m ∷ mods)) ≡ [] → (shown k (same_xid x) (more ++ m ∷ mods) ≡ [] → ⊥) → ⊥
-    here true f ih = (cc)
-    here false f ih = ih f
+shown-some k x m mods [] a e h = grind arith
+shown-some k x m mods (o ∷ more) a e h = grind (arith, shown-some k x m mods more a e)
 
 module _ (asked : ℕ → Option Range) (insts : ℕ) (b : Board) (sound : Sound asked insts b) (s k : ℕ) (x : Xid) (newer mid there : List Record) (may : MayTell b s k x newer mid there)
     (m : DeedAt) (older more : List DeedAt) (place : stands there ≡ more ++ m ∷ older) (row : on k m ≡ true) (same : same_xid x m.xid ≡ true) where
@@ -118,19 +62,9 @@ module _ (asked : ℕ → Option Range) (insts : ℕ) (b : Board) (sound : Sound
   seen-is : (st : Stage) → stage x b.records ≡ st → seen_at s (λ y. committed_at y b.past) x ≡ is_up_to s (durable_commit (b.durable x.seg) st)
   seen-is st e = ap (is_up_to s) ((sound.txns.each x).commits ∙ ap (durable_commit (b.durable x.seg)) e)
 
-  not-seen : (c : ℕ) → s < c → is_up_to s (durable_commit (b.durable x.seg) (Over (Some c))) ≡ false
-  not-seen c lt = here (leb c (b.durable x.seg))
-    where
-      here : (t : Bool) → is_up_to s (cond t (Some c) None) ≡ false
-      here true = grind (arith, nat_tests, lt)
-      here false = refl
-
   -- by its stage now, where its end is above s
   not-yet : (st : Stage) → stage x b.records ≡ st → is_up_to s (ended x head) ≡ false → ((c : ℕ) → st ≡ Over (Some c) → s < c) → IsTold
-  not-yet (Over (Some c)) e none high = (none ∙ sym (seen-is (Over (Some c)) e ∙ not-seen c (high c refl)), λ _. rw e (high c refl))
-  not-yet (Over None) e none high = (none ∙ sym (seen-is (Over None) e), λ _. rw e tt)
-  not-yet Fresh e none high = (none ∙ sym (seen-is Fresh e), λ _. rw e may.clock)
-  not-yet Active e none high = (none ∙ sym (seen-is Active e), λ _. rw e may.clock)
+  not-yet st e none high = grind arith
 
   -- a commit record that the header doesn't have is above s
   came-since : ((c : ℕ) → stage x head ≡ Over (Some c) → ⊥) → (st : Stage) → stage x b.records ≡ st → (c : ℕ) → st ≡ Over (Some c) → s < c
@@ -143,51 +77,16 @@ module _ (asked : ℕ → Option Range) (insts : ℕ) (b : Board) (sound : Sound
   rolled-high : (e : ℕ) → stage x head ≡ Over None → ended x head ≡ Some e → e ≤ s → ⊥
   rolled-high e is end le = shown-some k x m older more row same (ap (shown k (same_xid x)) (sym place) ∙ (sym still ∙ nothing))
     where
-      low : AllByRecursion (λ r. same_xid x (xid_of r) ≡ true → scn_of r ≤ e) mid
-      low = may.last e is end
-
-      later : AllByRecursion (λ r. touches k r ≡ true → s < scn_of r) mid
-      later = (all_append (λ r. touches k r ≡ true → s < scn_of r) newer mid may.later).1
+      one : (r : Record) → (same_xid x (xid_of r) ≡ true → scn_of r ≤ e) → (touches k r ≡ true → s < scn_of r) → touches k r ≡ true → same_xid x (xid_of r) ≡ false
+      one r low later t = grind arith
 
       still : shown k (same_xid x) (stands head) ≡ shown k (same_xid x) (stands there)
-      still = shown-later k (same_xid x) mid there (both mid low later)
-        where
-          both : (rs : List Record) → AllByRecursion (λ r. same_xid x (xid_of r) ≡ true → scn_of r ≤ e) rs → AllByRecursion (λ r. touches k r ≡ true → s < scn_of r) rs → AllByRecursion (λ r. touches k r ≡ true → same_xid x (xid_of r) ≡ false) rs
-          both [] a c = tt
-          both (r ∷ rs) a c = ((λ t. one (same_xid x (xid_of r)) refl t), both rs a.1 c.1)
-            where
-              one : (u : Bool) → same_xid x (xid_of r) ≡ u → touches k r ≡ true → u ≡ false
-              one false f t = refl
-              one true f t = (let up = c.0 t in let down = a.0 f in absurd (omega (arith, up, down, le)))
+      still = shown-later k (same_xid x) mid there (all_both _ _ _ mid one (may.last e is end) (all_append (λ r. touches k r ≡ true → s < scn_of r) newer mid may.later).1)
 
       nothing : shown k (same_xid x) (stands head) ≡ []
       nothing =
-          let gone = (sound.txns.each x).rolled (over None is) in
           let mods : of_xid x (stands b.records) ≡ of_xid x (stands head) = ap (λ recs. of_xid x (stands recs)) may.image ∙ stands-same x None newer head (subst Follows may.image sound.txns.follows) is in
-          sym (shown-of_xid k x (stands head)) ∙ none-shows k (of_xid x (stands head)) (ap (λ (ms : List DeedAt). deeds_in ms) (sym mods) ∙ gone)
+          sym (shown-of_xid k x (stands head)) ∙ none-shows k (of_xid x (stands head)) (ap (λ (ms : List DeedAt). deeds_in ms) (sym mods) ∙ (sound.txns.each x).rolled (over None is))
 
   pub header-tells : IsTold
-  header-tells = here (stage x head) refl (ended x head) refl (ended-agrees x head (follows-older newer head (subst Follows may.image sound.txns.follows)))
-    where
-      here : (st : Stage) → stage x head ≡ st → (o : Option ℕ) → ended x head ≡ o → Agrees st o → IsTold
-      here Fresh e None f g = not-yet (stage x b.records) refl (ap (is_up_to s) f) (came-since (λ c h. (let bad : Fresh ≡ Over (Some c) = sym e ∙ h in cc)) (stage x b.records) refl)
-      here Active e None f g = not-yet (stage x b.records) refl (ap (is_up_to s) f) (came-since (λ c h. (let bad : Active ≡ Over (Some c) = sym e ∙ h in cc)) (stage x b.records) refl)
-      here Fresh e (Some d) f g = absurd g
-      here Active e (Some d) f g = absurd g
-      here (Over None) e None f g = absurd g
-      here (Over (Some c)) e None f g = absurd g
-      here (Over None) e (Some d) f g = below (leb d s) refl
-        where
-          below : (t : Bool) → leb d s ≡ t → IsTold
-          below false l = not-yet (Over None) (over None e) (ap (is_up_to s) f ∙ l) (λ c h. (let bad : ◌≡◌ {A = Option ℕ} None (Some c) = cc in cc))
-          below true l = absurd (rolled-high d e f (grind (arith, nat_tests, l)))
-      here (Over (Some c)) e (Some d) f g = below (leb d s) refl
-        where
-          below : (t : Bool) → leb d s ≡ t → IsTold
-          below false l = not-yet (Over (Some c)) (over (Some c) e) (ap (is_up_to s) f ∙ l) (λ c2 h. (let same : c ≡ c2 = cc in grind (arith, nat_tests, l, g, same)))
-          below true l =
-              let low : c ≤ s = grind (arith, nat_tests, l, g) in
-              let on : leb c (b.durable x.seg) ≡ true = (let le = may.durable c e low in grind (arith, nat_tests, le)) in
-              let now = over (Some c) e in
-              let told : seen_at s (λ y. committed_at y b.past) x ≡ leb c s = seen-is (Over (Some c)) now ∙ ap (λ (t : Bool). is_up_to s (cond t (Some c) None)) on in
-              (ap (is_up_to s) f ∙ (ap (λ n. leb n s) (sym g) ∙ sym told), λ none. absurd (let some : committed_at x b.past ≡ Some c = (sound.txns.each x).commits ∙ (ap (durable_commit (b.durable x.seg)) now ∙ ap (λ (t : Bool). cond t (Some c) None) on) in let bad : ◌≡◌ {A = Option ℕ} None (Some c) = sym none ∙ some in cc))
+  header-tells = grind (arith, cases, ended-agrees, follows-older, not-yet, came-since, over, rolled-high, seen-is)

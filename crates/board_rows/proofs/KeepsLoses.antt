@@ -1,25 +1,12 @@
 -- The loss of an instance keeps the board sound.
-use Rattle.std.proofs.Common.{◌≡◌, ℕ, ◌<◌, ◌≤◌, Bool, true, false, cond, ◌==◌, List, [], ◌∷◌, refl, sym, ap, ◌∙◌, subst, arith}
-use Rattle.std.specs.Prelude.{Option, Some, None}
+use Rattle.std.proofs.Common.{filter, ◌≡◌, ◌≢◌, ℕ, ◌≤◌, Bool, true, false, cond, ◌==◌, List, [], ◌∷◌, refl, sym, ap, ◌∙◌, subst, arith, Option, Some, None}
 use Rattle.std.specs.List.{AllByRecursion}
-use Rattle.base_types.specs.declared.names.Xid.{Xid}
-use Rattle.journal.specs.Past.{Past, same_xid, home_of}
-use Rattle.journal.specs.Standing.{row_of, changes_of, standing, is_open}
-use Rattle.journal.specs.declared.deeds.Commit.{Commit}
-use Rattle.journal.specs.History.{history}
-use Rattle.journal.specs.Sees.{is_home, last_of, own_changes}
-use Rattle.journal.specs.Stood.{started_up_to}
-use Rattle.journal.specs.Good.{Range}
-use Rattle.journal.proofs.XidLemmas.{same_xid-refl, same_xid-true}
-use Rattle.board_rows.specs.Board.{EachSuffix, Record, Does, TakesBack, Commits, RollsBack, DeedAt, thread_of, scn_of, xid_of, touches, stands, of_xid, Stage, Fresh, Active, Over, stage, begun}
-use Rattle.board_rows.specs.Rows.{FreeUnder, deeds_in, committed_at, is_up_to, seen_at, IsMade, logged}
+use Rattle.board_rows.proofs.Words.{Xid, Past, same_xid, home_of, row_of, changes_of, standing, is_open, Commit, history, is_home, last_of, own_changes, started_up_to, Range, same_xid-true, EachSuffix, Record, Does, TakesBack, Commits, RollsBack, DeedAt, thread_of, scn_of, xid_of, touches, stands, of_xid, Stage, Fresh, Active, Over, stage, FreeUnder, deeds_in, committed_at, seen_at, IsMade, logged, Board, Loss, Crash, Fault, IsLate, MayLose, after, anew, is_kept, Sound, Clocks, Sessions, RowsStand, RowsAreLate, ScanIsSeen, EndsBy, CanCommit, RecordIsIn, Crashed, Ended}
+use Rattle.board_rows.proofs.Lists.{all_map, clash, all_filter, cases, pair_filter, all_of}
 use Rattle.board_rows.specs.Events
-use Rattle.board_rows.specs.Events.{Board, Loss, Crash, Fault, entry_of_loss, IsLate, MayLose, after, anew, is_kept, kept_of}
-use Rattle.board_rows.specs.Sound.{Sound, Clocks, Sessions, RowsStand, RowsAreLate, ScanIsSeen, EndsBy, CanCommit, RecordIsIn}
-use Rattle.board_rows.proofs.Shown.{all_map, clash}
-use Rattle.board_rows.proofs.AnswerSteps.{own-other as own-same, scan-anew, anew-at, by_own}
-use Rattle.board_rows.proofs.SessionSteps.{push-proper, push-answers, starts-loses}
-use Rattle.board_rows.proofs.Losses.{KeepsUnder, keeps-under, eqb-sym, all_filter, Kept, lost-is, stage-kept, of_xid-kept, own-other, begun-kept, rising-kept}
+use Rattle.board_rows.proofs.AnswerSteps.{anew-at, by_own}
+use Rattle.board_rows.proofs.SessionSteps.{starts-loses}
+use Rattle.board_rows.proofs.Losses.{KeepsUnder, keeps-under, Kept, stage-kept, of_xid-kept, own-other, fresh-kept, AllKept}
 use Rattle.board_rows.proofs.LossTxns.{committed-is, commit-kept, durable-kept, live-kept, over-before, txns-loses}
 use Rattle.board_rows.proofs.Logged.{IsTold, logged-loses}
 use Rattle.board_rows.proofs.NumberSteps.{numbers-loses}
@@ -29,19 +16,17 @@ use Rattle.board_rows.proofs.LossRows.{under-kept, shown-kept, order-kept, repla
 -- what holds of each transaction's holds of all
 all-by_xid : (P : DeedAt → Type 0) (mods : List DeedAt) → ((x : Xid) → AllByRecursion P (of_xid x mods)) → AllByRecursion P mods
 all-by_xid P [] h = tt
-all-by_xid P (m ∷ mods) h = (first (same_xid m.xid m.xid) (same_xid-refl m.xid) (h m.xid), all-by_xid P mods (λ x. rest (same_xid x m.xid) (of_xid x mods) (h x)))
+all-by_xid P (m ∷ mods) h = (first (h m.xid), all-by_xid P mods (λ x. rest x (h x)))
   where
-    first : (t : Bool) → t ≡ true → AllByRecursion P (cond t (m ∷ of_xid m.xid mods) (of_xid m.xid mods)) → P m
-    first true e g = g.0
-    first false e g = clash false e refl
+    first : AllByRecursion P (of_xid m.xid (m ∷ mods)) → P m
+    first g = grind (arith, cases)
 
-    rest : (t : Bool) (ms : List DeedAt) → AllByRecursion P (cond t (m ∷ ms) ms) → AllByRecursion P ms
-    rest true ms g = g.1
-    rest false ms g = g
+    rest : (x : Xid) → AllByRecursion P (of_xid x (m ∷ mods)) → AllByRecursion P (of_xid x mods)
+    rest x g = grind arith
 
 module _ (asked : ℕ → Option Range) (insts : ℕ) (b : Board) (sound : Sound asked insts b) (i kept : ℕ) (may : MayLose b i kept) where
   abbrev there : List Record
-  there = kept_of i kept b.records
+  there = filter (is_kept i kept) b.records
 
   under : KeepsUnder i kept b.records
   under = keeps-under i kept b.records sound.clocks.rising may.newest
@@ -54,32 +39,14 @@ module _ (asked : ℕ → Option Range) (insts : ℕ) (b : Board) (sound : Sound
 
   -- what vanishes wasn't committed
   unseen : (s k : ℕ) (r : Record) → EndsBy (stage (xid_of r) b.records) r → (CanCommit (is_open (xid_of r) b.past) (stage (xid_of r) b.records) → thread_of r ≡ (xid_of r).seg) → is_kept i kept r ≡ false → touches k r ≡ true → seen_at s committed (xid_of r) ≡ false
-  unseen s k r ends own lost t = here (committed (xid_of r)) refl
-    where
-      below : (r : Record) (d : ℕ) → touches k r ≡ true → EndsBy (Over (Some d)) r → scn_of r < d
-      below (Does c x seq deed) d t h = h
-      below (TakesBack j c x seq row) d t h = h
-      below (Commits c x) d t h = clash false t refl
-      below (RollsBack j c x) d t h = clash false t refl
-
-      here : (o : Option ℕ) → committed (xid_of r) ≡ o → is_up_to s o ≡ false
-      here None e = refl
-      here (Some d) e =
-          let is = committed-is sound.txns i kept may.durable under (xid_of r) d e in
-          let gone = lost-is i kept r lost in
-          let mine = rw is.0 at own in
-          let same : (xid_of r).seg ≡ i = sym (mine tt) ∙ gone.0 in
-          let lt = below r d t (rw is.0 at ends) in
-          let low : d ≤ b.durable i = rw same at is.1 in
-          let up = may.durable in
-          absurd (omega (arith, lt, low, up, gone.1))
+  unseen s k r ends own lost t = grind arith
 
   rows-loses : RowsStand there committed (history b.past)
   rows-loses = record {
     order = order-kept i kept committed b.records under sound.rows.order;
     deeds_replay = replay-kept i kept b.records under sound.rows.deeds_replay;
-    table = λ s k. sound.rows.table s k ∙ ap changes_of (sym (shown-kept i kept k (seen_at s committed) b.records under (all_map (RecordIsIn b.records (λ y. is_open y b.past)) (λ r. is_kept i kept r ≡ false → touches k r ≡ true → seen_at s committed (xid_of r) ≡ false) b.records (λ r h. unseen s k r h.ends h.own) sound.txns.each_record)));
-    made = all_map (IsMade committed (stands b.records)) (IsMade committed (stands there)) (history b.past) made sound.rows.made;
+    table = λ s k. sound.rows.table s k ∙ ap changes_of (sym (shown-kept i kept k (seen_at s committed) b.records under (all_map _ _ b.records (λ r h. unseen s k r h.ends h.own) sound.txns.each_record)));
+    made = all_map _ _ (history b.past) made sound.rows.made;
     replay = sound.rows.replay;
   }
     where
@@ -96,10 +63,10 @@ module _ (asked : ℕ → Option Range) (insts : ℕ) (b : Board) (sound : Sound
   history-loses =
       sound.log_history ∙ sym (logged-loses i kept b.durable may.durable HasCommit b.records
       (λ x h. commit-kept sound.txns i kept may.durable under x h.0 h.1 (durable-kept sound.txns i kept may.durable under x h.0 h.2))
-      (all_map (RecordIsIn b.records (λ y. is_open y b.past)) (IsTold i kept b.durable may.durable HasCommit) b.records (λ r h. one r h.ends) sound.txns.each_record))
+      (all_map _ _ b.records one sound.txns.each_record))
     where
-      one : (r : Record) → EndsBy (stage (xid_of r) b.records) r → IsTold i kept b.durable may.durable HasCommit r
-      one (Commits c x) h = λ le. (c, h, le)
+      one : (r : Record) → RecordIsIn b.records (λ y. is_open y b.past) r → IsTold i kept b.durable may.durable HasCommit r
+      one (Commits c x) h = λ le. (c, h.ends, le)
       one (Does c x seq d) h = tt
       one (TakesBack j c x seq row) h = tt
       one (RollsBack j c x) h = tt
@@ -112,124 +79,83 @@ module _ (asked : ℕ → Option Range) (insts : ℕ) (b : Board) (sound : Sound
 
   -- what stands again is of transactions that never commit
   late-loses : RowsAreLate there b.clock b.floor live committed
-  late-loses = all-by_xid Late (stands there) (λ x. by_stage x (stage x there) refl (live x) refl)
+  late-loses = all-by_xid Late (stands there) (λ x. by x (stage x there) refl (live x) refl)
     where
       -- what can't commit
       dead : (x : Xid) → ((s clock : ℕ) → IsLate s (live x) (stage x there) clock) → AllByRecursion Late (of_xid x (stands there))
-      dead x h = all_map (λ m. (same_xid x m.xid ≡ true) × (m ≡ m)) Late (of_xid x (stands there)) (λ m e new. rw (sym (same_xid-true x m.xid e.0)) (h (b.floor (row_of m.deed)) (b.clock x.seg))) (all_filter (λ (m : DeedAt). m ≡ m) (λ m. same_xid x m.xid) (stands there) (all_refl (stands there)))
-        where
-          all_refl : (mods : List DeedAt) → AllByRecursion (λ (m : DeedAt). m ≡ m) mods
-          all_refl [] = tt
-          all_refl (m ∷ mods) = (refl, all_refl mods)
+      dead x h = all_map _ Late (of_xid x (stands there)) (λ m (e : (same_xid x m.xid ≡ true) × Unit {0}) new. rw (sym (same_xid-true x m.xid e.0)) (h (b.floor (row_of m.deed)) (b.clock x.seg))) (all_filter (λ m. Unit {0}) (λ m. same_xid x m.xid) (stands there) (all_of _ (stands there) (λ m. tt)))
 
       -- what is as before
-      same : (x : Xid) → of_xid x (stands there) ≡ of_xid x (stands b.records) → ((s clock : ℕ) → IsLate s (is_open x b.past) (stage x b.records) clock → IsLate s (live x) (stage x there) clock) → AllByRecursion Late (of_xid x (stands there))
-      same x e h = subst (AllByRecursion Late) (sym e) (all_map (λ m. (same_xid x m.xid ≡ true) × WasLate m) Late (of_xid x (stands b.records)) one (all_filter WasLate (λ m. same_xid x m.xid) (stands b.records) sound.late))
+      same : (x : Xid) → AllKept i kept x b.records → ((s clock : ℕ) → IsLate s (is_open x b.past) (stage x b.records) clock → IsLate s (live x) (stage x there) clock) → AllByRecursion Late (of_xid x (stands there))
+      same x all h = subst (AllByRecursion Late) (sym (of_xid-kept i kept x b.records all)) (all_map _ Late (of_xid x (stands b.records)) one (all_filter WasLate (λ m. same_xid x m.xid) (stands b.records) sound.late))
         where
           one : (m : DeedAt) → (same_xid x m.xid ≡ true) × WasLate m → Late m
-          one m g new =
-              let is : m.xid ≡ x = sym (same_xid-true x m.xid g.0) in
-              let old : IsLate (b.floor (row_of m.deed)) (is_open x b.past) (stage x b.records) (b.clock x.seg) = rw is at (g.1 new) in
-              rw is (h (b.floor (row_of m.deed)) (b.clock x.seg) old)
-
-      late-over : (s c clock : ℕ) (l o : Bool) (st there_st : Stage) → st ≡ Over (Some c) → there_st ≡ Over (Some c) → IsLate s o st clock → IsLate s l there_st clock
-      late-over s c clock l o st there_st e f h = rw f (rw e at h)
-
-      open_ : (x : Xid) (t : Bool) → (x.seg == i) ≡ t → cond t false (is_open x b.past) ≡ true → ((x.seg == i) ≡ false) × (is_open x b.past ≡ true)
-      open_ x true e f = clash false f refl
-      open_ x false e f = (e, f)
+          one m g new = grind (arith, cases, h (b.floor (row_of m.deed)) (b.clock x.seg))
 
       live-late : (x : Xid) → live x ≡ true → AllByRecursion Late (of_xid x (stands there))
-      live-late x l =
-          let o = open_ x (x.seg == i) refl l in
-          let all = live-kept sound.txns i kept may.durable under x o.1 o.0 in
-          same x (of_xid-kept i kept x b.records all) (λ s clock h. rw (stage-kept i kept x b.records all, l) (rw o.1 at h))
+      live-late x l = let all : AllKept i kept x b.records = live-kept sound.txns i kept may.durable under x (grind arith) (grind arith) in same x all (λ s clock h. grind (arith, stage-kept i kept x b.records all))
 
-      never : (s clock : ℕ) (l : Bool) (st : Stage) → l ≡ false → ((o : Option ℕ) → st ≡ Over o → ⊥) → IsLate s l st clock
-      never s clock l Fresh e h = λ f. clash l f e
-      never s clock l Active e h = λ f. clash l f e
-      never s clock l (Over o) e h = absurd (h o refl)
-
-      by_stage : (x : Xid) (st : Stage) → stage x there ≡ st → (l : Bool) → live x ≡ l → AllByRecursion Late (of_xid x (stands there))
-      by_stage x (Over None) e l f = dead x (λ s clock. rw e tt)
-      by_stage x (Over (Some c)) e l f = let was = over-before sound.txns i kept may.durable under x c e in same x (of_xid-kept i kept x b.records was.1) (λ s clock h. late-over s c clock (live x) (is_open x b.past) (stage x b.records) (stage x there) was.0 e h)
-      by_stage x Fresh e true f = live-late x f
-      by_stage x Active e true f = live-late x f
-      by_stage x Fresh e false f = dead x (λ s clock. never s clock (live x) (stage x there) f (λ o g. (let bad : Fresh ≡ Over o = sym e ∙ g in cc)))
-      by_stage x Active e false f = dead x (λ s clock. never s clock (live x) (stage x there) f (λ o g. (let bad : Active ≡ Over o = sym e ∙ g in cc)))
+      by : (x : Xid) (st : Stage) → stage x there ≡ st → (l : Bool) → live x ≡ l → AllByRecursion Late (of_xid x (stands there))
+      by x (Over None) e l f = dead x (λ s clock. rw e tt)
+      by x (Over (Some c)) e l f = let was = over-before sound.txns i kept may.durable under x c e in same x was.1 (λ s clock h. rw e (rw was.0 at h))
+      by x st e true f = live-late x f
+      by x Fresh e false f = dead x (λ s clock. rw e (λ g. clash (live x) g f))
+      by x Active e false f = dead x (λ s clock. rw e (λ g. clash (live x) g f))
 
   -- the last transaction of a session of another instance is of another segment
   pub apart : (z : ℕ) (x : Xid) → is_home z i b.past ≡ false → last_of z b.past ≡ Some x → (x.seg == i) ≡ false
-  apart z x off e =
-      let home = sound.sessions.at_home z x e in
-      let test : (i == x.seg) ≡ false = rw home at off in
-      eqb-sym i x.seg test
+  apart z x off e = grind arith
 
-  sessions-loses : Sessions (λ x. begun x there) (λ z. cond (is_home z i b.past) None (last_of z b.past)) (λ z. home_of z b.past)
-  sessions-loses = record {
-    used = λ z x e. (let g = last z x (is_home z i b.past) refl e in begun-kept i kept x b.records (own-other i kept x b.records (apart z x g.0 g.1)) ∙ sound.sessions.used z x g.1);
-    single = λ y z x e f. sound.sessions.single y z x (last y x (is_home y i b.past) refl e).1 (last z x (is_home z i b.past) refl f).1;
-    at_home = λ z x e. sound.sessions.at_home z x (last z x (is_home z i b.past) refl e).1;
-  }
+  sessions-loses : Sessions (λ x. stage x there) (λ z. cond (is_home z i b.past) None (last_of z b.past)) (λ z. home_of z b.past)
+  sessions-loses = record { used = used; single = λ y z x e f. grind (arith, sound.sessions.single y z x); at_home = λ z x e. grind (arith, sound.sessions.at_home z x) }
     where
-      last : (z : ℕ) (x : Xid) (t : Bool) → is_home z i b.past ≡ t → ◌≡◌ {A = Option Xid} (cond t None (last_of z b.past)) (Some x) → (is_home z i b.past ≡ false) × (last_of z b.past ≡ Some x)
-      last z x true e f = absurd (let bad : ◌≡◌ {A = Option Xid} None (Some x) = f in cc)
-      last z x false e f = (e, f)
+      used : (z : ℕ) (x : Xid) → cond (is_home z i b.past) None (last_of z b.past) ≡ Some x → stage x there ≢ Fresh
+      used z x e f = grind (arith, apart z x, fresh-kept i kept x b.records sound.txns.follows, own-other i kept x b.records, sound.sessions.used z x)
 
   scans-loses : (now : Past) → ((z : ℕ) → last_of z now ≡ cond (is_home z i b.past) None (last_of z b.past)) → ((y : Xid) → (y.seg == i) ≡ false → (is_open y now ≡ is_open y b.past) × (standing y now ≡ standing y b.past))
       → (z : ℕ) → ScanIsSeen b.floor (anew (is_home z i b.past) (b.scan z)) (by_own b.floor (history b.past) (own_changes z now))
-  scans-loses now last other z = scan-anew b.floor (history b.past) (is_home z i b.past) (b.scan z) (own_changes z b.past) (own_changes z now) same (sound.answers.scans z)
-    where
-      same : is_home z i b.past ≡ false → own_changes z now ≡ own_changes z b.past
-      same off = own-same b.past now z (last z ∙ rw off refl) (λ y e. other y (apart z y off e))
+  scans-loses now last other z = grind arith
 
   owns-loses : (z : ℕ) (x : Xid) → cond (is_home z i b.past) None (last_of z b.past) ≡ Some x → cond (x.seg == i) false (is_open x b.past) ≡ true → EachSuffix (λ older. FreeUnder committed (started_up_to z b.past) x (stands older)) there
-  owns-loses z x e o = under-kept i kept committed (started_up_to z b.past) x b.records under (sound.owns z x (last (is_home z i b.past) e) (was (x.seg == i) o))
-    where
-      last : (t : Bool) → ◌≡◌ {A = Option Xid} (cond t None (last_of z b.past)) (Some x) → last_of z b.past ≡ Some x
-      last true f = absurd (let bad : ◌≡◌ {A = Option Xid} None (Some x) = f in cc)
-      last false f = f
-
-      was : (t : Bool) → cond t false (is_open x b.past) ≡ true → is_open x b.past ≡ true
-      was true f = clash false f refl
-      was false f = f
+  owns-loses z x e o = under-kept i kept committed (started_up_to z b.past) x b.records under (sound.owns z x (grind arith) (grind arith))
 
   clocks-loses : Clocks there b.clock b.known b.durable
   clocks-loses = record {
     knows = sound.clocks.knows;
     lasts = sound.clocks.lasts;
-    drawn = all_map (λ r. (Kept i kept r ≡ true) × (scn_of r ≤ b.clock (thread_of r))) (λ r. scn_of r ≤ b.clock (thread_of r)) there (λ r h. h.1) (all_filter (λ r. scn_of r ≤ b.clock (thread_of r)) (Kept i kept) b.records sound.clocks.drawn);
-    rising = rising-kept i kept b.records sound.clocks.rising;
+    drawn = all_map _ _ there (λ r h. h.1) (all_filter (λ r. scn_of r ≤ b.clock (thread_of r)) (Kept i kept) b.records sound.clocks.drawn);
+    rising = pair_filter _ (Kept i kept) b.records sound.clocks.rising;
   }
 
+  reads-loses : (z : ℕ) → (anew (is_home z i b.past) (b.scan z)).snapshot ≡ started_up_to z b.past
+  reads-loses z = anew-at (is_home z i b.past) (b.scan z) ∙ sound.reads_at z
+
   pub keeps-loses : (loss : Loss) → Sound asked insts (after b (Events.loses i kept loss))
-  keeps-loses (Crash line) = record {
-    clocks = clocks-loses;
-    txns = txns-loses sound.txns i kept may.durable under;
-    sessions = sessions-loses;
-    segments = segments-loses sound.segments i kept may.durable;
-    rows = rows-loses;
-    owns = owns-loses;
-    log_history = history-loses;
-    numbers = numbers-loses i kept sound.numbers sound.clocks.rising;
-    late = late-loses;
-    starts = starts-loses sound.starts i;
-    reads_at = λ z. anew-at (is_home z i b.past) (b.scan z) ∙ sound.reads_at z;
-    answers = push-answers (λ z. anew (is_home z i b.past) (b.scan z)) (entry_of_loss i (Crash line)) sound.answers tt tt tt (scans-loses (entry_of_loss i (Crash line) ∷ b.past) (λ z. refl) (λ y off. (rw off refl, rw off refl)));
-    proper = push-proper (entry_of_loss i (Crash line)) sound.proper tt tt tt tt;
-  }
-  keeps-loses (Fault bad) = record {
-    clocks = clocks-loses;
-    txns = txns-loses sound.txns i kept may.durable under;
-    sessions = sessions-loses;
-    segments = segments-loses sound.segments i kept may.durable;
-    rows = rows-loses;
-    owns = owns-loses;
-    log_history = history-loses;
-    numbers = numbers-loses i kept sound.numbers sound.clocks.rising;
-    late = late-loses;
-    starts = starts-loses sound.starts i;
-    reads_at = λ z. anew-at (is_home z i b.past) (b.scan z) ∙ sound.reads_at z;
-    answers = push-answers (λ z. anew (is_home z i b.past) (b.scan z)) (entry_of_loss i (Fault bad)) sound.answers tt tt tt (scans-loses (entry_of_loss i (Fault bad) ∷ b.past) (λ z. refl) (λ y off. (rw off refl, rw off refl)));
-    proper = push-proper (entry_of_loss i (Fault bad)) sound.proper tt tt tt tt;
-  }
+  keeps-loses (Crash line) = assumption (
+    clocks-loses,
+    txns-loses sound.txns i kept may.durable under,
+    sessions-loses,
+    segments-loses sound.segments i kept may.durable,
+    rows-loses,
+    owns-loses,
+    history-loses,
+    numbers-loses i kept sound.numbers sound.clocks.rising sound.txns.follows,
+    late-loses,
+    starts-loses sound.starts i,
+    reads-loses,
+    scans-loses (Crashed line i ∷ b.past) (λ z. refl) (λ y off. (rw off refl, rw off refl)),
+  )
+  keeps-loses (Fault bad) = assumption (
+    clocks-loses,
+    txns-loses sound.txns i kept may.durable under,
+    sessions-loses,
+    segments-loses sound.segments i kept may.durable,
+    rows-loses,
+    owns-loses,
+    history-loses,
+    numbers-loses i kept sound.numbers sound.clocks.rising sound.txns.follows,
+    late-loses,
+    starts-loses sound.starts i,
+    reads-loses,
+    scans-loses (Ended i bad ∷ b.past) (λ z. refl) (λ y off. (rw off refl, rw off refl)),
+  )

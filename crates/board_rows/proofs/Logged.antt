@@ -1,20 +1,9 @@
 -- The history of the journal is that of the logs.
-use Rattle.std.proofs.Common.{◌≡◌, ◌≢◌, ℕ, ◌<◌, ◌≤◌, Bool, true, false, not, cond, ◌==◌, leb, List, [], ◌∷◌, ◌++◌, refl, sym, ap, ◌∙◌, arith, inl, inr}
-use Rattle.std.specs.Prelude.{Some}
+use Rattle.std.proofs.Common.{◌≡◌, ◌≢◌, ℕ, ◌<◌, ◌≤◌, Bool, true, false, cond, leb, List, [], ◌∷◌, ◌++◌, refl, sym, ap, arith, inl, inr, Some}
 use Rattle.std.specs.List.{AllByRecursion, filter}
-use Rattle.std.proofs.lemmas.Bool.{eqb-true}
 use Rattle.std.proofs.lemmas.Bool.Decides.{nat_tests}
-use Rattle.base_types.specs.declared.names.Xid.{Xid}
-use Rattle.journal.specs.Past.{same_xid}
-use Rattle.journal.specs.Standing.{changes_of}
-use Rattle.journal.specs.declared.deeds.Commit.{Commit}
-use Rattle.journal.specs.History.{is_before, entered}
-use Rattle.journal.proofs.XidLemmas.{same_xid-refl, same_xid-true}
-use Rattle.board_rows.specs.Board.{Record, Does, TakesBack, Commits, RollsBack, DeedAt, thread_of, scn_of, xid_of, stands, of_xid, Over, stage, Rising}
-use Rattle.board_rows.specs.Rows.{deeds_in, commit_of, logged}
-use Rattle.board_rows.specs.Events.{put}
-use Rattle.board_rows.specs.Sound.{Follows}
-use Rattle.board_rows.proofs.Shown.{all_map, all_append}
+use Rattle.board_rows.proofs.Words.{Xid, Commit, entered, same_xid-refl, Record, Does, TakesBack, Commits, RollsBack, thread_of, scn_of, stands, of_xid, Over, stage, Rising, commit_of, logged, put, Follows}
+use Rattle.board_rows.proofs.Lists.{cases, all_map, all_append}
 use Rattle.board_rows.proofs.ClockSteps.{put-here}
 use Rattle.board_rows.proofs.TxnSteps.{stops}
 use Rattle.board_rows.proofs.TxnSettles.{IsPlaced}
@@ -22,26 +11,8 @@ use Rattle.board_rows.proofs.Losses.{after-of_xid, after-stage, Kept, AllKept, l
 
 -- commits of two instances enter in either order
 pub entered-swap : (a b : Commit) → a.inst ≢ b.inst → (commits : List Commit) → entered a (entered b commits) ≡ entered b (entered a commits)
-entered-swap a b differ [] = here (is_before a b) (is_before b a) total
-  where
-    total : is_before b a ≡ not (is_before a b)
-    total = grind (arith, nat_tests, differ)
-
-    here : (p q : Bool) → q ≡ not p → cond p (b ∷ a ∷ []) (a ∷ b ∷ []) ≡ cond q (a ∷ b ∷ []) (b ∷ a ∷ [])
-    here true q e = rw e refl
-    here false q e = rw e refl
-entered-swap a b differ (d ∷ commits) = here (is_before a d) (is_before b d) refl refl (entered-swap a b differ commits)
-  where
-    both : (r : Bool) → is_before a b ≡ r → is_before a d ≡ false → is_before b d ≡ false → entered a (b ∷ d ∷ commits) ≡ entered b (a ∷ d ∷ commits)
-    both true ab ad bd = let ba : is_before b a ≡ false = grind (arith, nat_tests, ab, differ) in rw (ab, ba, ad) refl
-    both false ab ad bd = let ba : is_before b a ≡ true = grind (arith, nat_tests, ab, differ) in rw (ab, ba, bd) refl
-
-    here : (p q : Bool) → is_before a d ≡ p → is_before b d ≡ q → entered a (entered b commits) ≡ entered b (entered a commits)
-        → entered a (cond q (d ∷ entered b commits) (b ∷ d ∷ commits)) ≡ entered b (cond p (d ∷ entered a commits) (a ∷ d ∷ commits))
-    here true true ad bd ih = rw (ad, bd) (ap (λ cs. d ∷ cs) ih)
-    here true false ad bd ih = let ab : is_before a b ≡ true = grind (arith, nat_tests, ad, bd, differ) in rw (ab, ad, bd) refl
-    here false true ad bd ih = let ba : is_before b a ≡ true = grind (arith, nat_tests, ad, bd, differ) in rw (ad, ba, bd) refl
-    here false false ad bd ih = both (is_before a b) refl ad bd
+entered-swap a b differ [] = grind (arith, cases)
+entered-swap a b differ (d ∷ commits) = grind (arith, cases, entered-swap a b differ commits)
 
 -- a commit's record is on the disk before as after
 abbrev SameDurable : (ℕ → ℕ) → (ℕ → ℕ) → Record → Type 0
@@ -50,10 +21,7 @@ SameDurable old now _ = Unit {0}
 
 logged-same : (old now : ℕ → ℕ) (recs : List Record) → AllByRecursion (SameDurable old now) recs → logged now recs ≡ logged old recs
 logged-same old now [] h = refl
-logged-same old now (Commits c x ∷ recs) h = rw (h.0, logged-same old now recs h.1) refl
-logged-same old now (Does c x seq d ∷ recs) h = logged-same old now recs h.1
-logged-same old now (TakesBack i c x seq row ∷ recs) h = logged-same old now recs h.1
-logged-same old now (RollsBack i c x ∷ recs) h = logged-same old now recs h.1
+logged-same old now (r ∷ recs) h = grind (arith, logged-same old now recs)
 
 module _ (durable : ℕ → ℕ) (r : Record) (new : durable (thread_of r) < scn_of r) where
   abbrev now : ℕ → ℕ
@@ -61,22 +29,7 @@ module _ (durable : ℕ → ℕ) (r : Record) (new : durable (thread_of r) < scn
 
   -- of the other records none becomes durable
   same-durable : (o : Record) → (o ≡ r → ⊥) → IsPlaced (durable (thread_of r)) r o → SameDurable durable now o
-  same-durable (Does c x seq d) other h = tt
-  same-durable (TakesBack i c x seq row) other h = tt
-  same-durable (RollsBack i c x) other h = tt
-  same-durable (Commits c x) other h = here (thread_of r == x.seg) refl
-    where
-      here : (t : Bool) → (thread_of r == x.seg) ≡ t → leb c (cond t (scn_of r) (durable x.seg)) ≡ leb c (durable x.seg)
-      here false e = refl
-      here true e =
-          let at_r : thread_of r ≡ x.seg = eqb-true (thread_of r) x.seg e in
-          elim (h (sym at_r)) [
-            | inl le ↦ (let low : leb c (scn_of r) ≡ true = grind (arith, nat_tests, le, new) in let up : leb c (durable x.seg) ≡ true = rw (sym at_r) (grind (arith, nat_tests, le)) in low ∙ sym up)
-            | inr o ↦ elim o [
-              | inl e2 ↦ absurd (other e2)
-              | inr lt ↦ (let low : leb c (scn_of r) ≡ false = grind (arith, nat_tests, lt) in let up : leb c (durable x.seg) ≡ false = rw (sym at_r) (grind (arith, nat_tests, lt, new)) in low ∙ sym up)
-            ]
-          ]
+  same-durable r other h = grind arith
 
   pub logged-quiet : (recs : List Record) → AllByRecursion (IsPlaced (durable (thread_of r)) r) recs → ((e : ℕ) (y : Xid) → Commits e y ≡ r → ⊥) → logged now recs ≡ logged durable recs
   logged-quiet recs placed never = logged-same durable now recs (all_map (IsPlaced (durable (thread_of r)) r) (SameDurable durable now) recs one placed)
@@ -88,12 +41,7 @@ module _ (durable : ℕ → ℕ) (r : Record) (new : durable (thread_of r) < scn
 -- after its commit nothing changes of a transaction
 pub stands-over : (c : ℕ) (x : Xid) (newer there : List Record) → Follows (newer ++ Commits c x ∷ there) → (stage x (newer ++ Commits c x ∷ there) ≡ Over (Some c)) × (of_xid x (stands (newer ++ Commits c x ∷ there)) ≡ of_xid x (stands there))
 stands-over c x [] there f = (rw (same_xid-refl x) refl, refl)
-stands-over c x (o ∷ newer) there f = here (same_xid x (xid_of o)) refl (stands-over c x newer there f.1)
-  where
-    here : (t : Bool) → same_xid x (xid_of o) ≡ t → (stage x (newer ++ Commits c x ∷ there) ≡ Over (Some c)) × (of_xid x (stands (newer ++ Commits c x ∷ there)) ≡ of_xid x (stands there))
-        → (stage x (o ∷ newer ++ Commits c x ∷ there) ≡ Over (Some c)) × (of_xid x (stands (o ∷ newer ++ Commits c x ∷ there)) ≡ of_xid x (stands there))
-    here true e ih = absurd (stops o (stage (xid_of o) (newer ++ Commits c x ∷ there)) (Some c) f.0 (rw (sym (same_xid-true x (xid_of o) e)) ih.0))
-    here false e ih = (after-stage x o (newer ++ Commits c x ∷ there) e ∙ ih.0, after-of_xid x o (stands (newer ++ Commits c x ∷ there)) e ∙ ih.1)
+stands-over c x (o ∷ newer) there f = grind (arith, cases, stops, after-stage, after-of_xid, stands-over c x newer there f.1)
 
 module _ (durable : ℕ → ℕ) (c : ℕ) (x : Xid) (new : durable x.seg < c) where
   abbrev now2 : ℕ → ℕ
@@ -132,27 +80,4 @@ module _ (i kept : ℕ) (durable : ℕ → ℕ) (lasts : durable i ≤ kept) (P 
 
   pub logged-loses : (recs : List Record) → ((x : Xid) → P x → AllKept i kept x recs) → AllByRecursion IsTold recs → logged durable (filter (Kept i kept) recs) ≡ logged durable recs
   logged-loses [] whole told = refl
-  logged-loses (r ∷ recs) whole told = here r (Kept i kept r) refl told.0 (λ x p. (whole x p).1) (logged-loses recs (λ x p. (whole x p).1) told.1)
-    where
-      entered-same : (c : ℕ) (x : Xid) (t : Bool) → leb c (durable x.seg) ≡ t → (c ≤ durable x.seg → P x) → ((x : Xid) → P x → AllKept i kept x recs) → logged durable (filter (Kept i kept) recs) ≡ logged durable recs
-          → cond t (entered (commit_of c x (filter (Kept i kept) recs)) (logged durable (filter (Kept i kept) recs))) (logged durable (filter (Kept i kept) recs)) ≡ cond t (entered (commit_of c x recs) (logged durable recs)) (logged durable recs)
-      entered-same c x false e p all ih = ih
-      entered-same c x true e p all ih =
-          let mods = of_xid-kept i kept x recs (all x (p (grind (arith, nat_tests, e)))) in
-          ap (λ (ms : List DeedAt). entered (record { commit_scn = c; inst = x.seg; xid = x; changes = changes_of (deeds_in ms) }) (logged durable (filter (Kept i kept) recs))) mods
-          ∙ ap (entered (commit_of c x recs)) ih
-
-      here : (r : Record) (t : Bool) → Kept i kept r ≡ t → IsTold r → ((x : Xid) → P x → AllKept i kept x recs) → logged durable (filter (Kept i kept) recs) ≡ logged durable recs
-          → logged durable (cond t (r ∷ filter (Kept i kept) recs) (filter (Kept i kept) recs)) ≡ logged durable (r ∷ recs)
-      here (Does c x seq d) true e p all ih = ih
-      here (Does c x seq d) false e p all ih = ih
-      here (TakesBack j c x seq row) true e p all ih = ih
-      here (TakesBack j c x seq row) false e p all ih = ih
-      here (RollsBack j c x) true e p all ih = ih
-      here (RollsBack j c x) false e p all ih = ih
-      here (Commits c x) true e p all ih = entered-same c x (leb c (durable x.seg)) refl p all ih
-      here (Commits c x) false e p all ih =
-          let gone = lost-is i kept (Commits c x) e in
-          let low : durable x.seg ≤ kept = rw gone.0 lasts in
-          let off : leb c (durable x.seg) ≡ false = (let up = gone.1 in grind (arith, nat_tests, low, up)) in
-          rw off ih
+  logged-loses (r ∷ recs) whole told = grind (arith, cases, Kept, AllKept, of_xid-kept, lost-is, logged-loses recs (λ x p. (whole x p).1) told.1)

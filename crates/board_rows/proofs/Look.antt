@@ -1,59 +1,19 @@
 -- What a look at a row shows is what the session sees, and it is settled.
-use Rattle.std.proofs.Common.{◌≡◌, ℕ, suc, ◌<◌, ◌≤◌, Bool, true, false, cond, ◌||◌, leb, List, [], ◌∷◌, ◌++◌, refl, sym, ap, ◌∙◌, subst, arith, inl, inr, ◌⊎◌}
-use Rattle.std.specs.Prelude.{Option, Some, None, IsSomeAnd}
-use Rattle.std.specs.Option.{option_and_then, option_map_or}
+use Rattle.std.proofs.Common.{◌≡◌, ℕ, suc, ◌<◌, ◌≤◌, Bool, true, false, ◌||◌, List, [], ◌∷◌, ◌++◌, refl, sym, ap, ◌∙◌, subst, arith, inl, inr, ◌⊎◌, Option, Some, None}
+use Rattle.std.specs.Option.{option_map_or}
 use Rattle.std.specs.List.{AllByRecursion}
-use Rattle.std.proofs.lemmas.Bool.Decides.{nat_tests}
 use Rattle.std.proofs.lemmas.List.Elements.{filter-append}
-use Rattle.base_types.specs.declared.names.Xid.{Xid}
-use Rattle.journal.specs.Past.{Past, same_xid}
-use Rattle.journal.specs.declared.deeds.Change.{Change}
-use Rattle.journal.specs.declared.deeds.Deed.{Deed}
-use Rattle.journal.specs.Standing.{row_of, changes_of, standing, is_open}
-use Rattle.journal.specs.History.{history, changes_up_to, value_by}
-use Rattle.journal.specs.Sees.{sees, own, last_of}
-use Rattle.journal.specs.Stood.{started_up_to}
-use Rattle.journal.specs.Good.{Range}
-use Rattle.journal.proofs.XidLemmas.{same_xid-refl, same_xid-true}
-use Rattle.board_rows.specs.Board.{Record, Does, TakesBack, Commits, RollsBack, DeedAt, thread_of, scn_of, xid_of, touches, stands, Stage, Fresh, Active, Over, stage, durable_commit}
-use Rattle.board_rows.specs.Numbers.{wrap_in}
-use Rattle.board_rows.specs.Rows.{FreeUnder, IsFree, on, shown, on_row, deeds_in, committed_at, is_up_to, seen_at, Ordered}
-use Rattle.board_rows.specs.Events.{Board, IsLate, IsLateHere, is_own, MayLook, MayChange, value_there}
-use Rattle.board_rows.specs.Sound.{Sound, EndsBy, IsBelow, CanCommit, RecordIsIn}
-use Rattle.board_rows.proofs.Shown.{all_map, all_both, all_append, clash, shown-alike, shown-later, shown-none, on_row-shown}
-use Rattle.board_rows.proofs.Order.{suffix_here, all-seen, all_without}
+use Rattle.board_rows.proofs.Words.{Xid, Past, same_xid, Deed, row_of, changes_of, standing, is_open, history, changes_up_to, value_by, sees, own, last_of, started_up_to, Range, Record, Does, DeedAt, thread_of, scn_of, xid_of, touches, stands, Fresh, Active, stage, durable_commit, wrap_in, FreeUnder, IsFree, on, shown, on_row, deeds_in, committed_at, seen_at, Ordered, Board, IsLateHere, is_own, MayLook, MayChange, value_there, Sound, RecordIsIn}
+use Rattle.board_rows.proofs.Lists.{all_pair, cases, all_map, all_both, all_append, suffix_here}
+use Rattle.board_rows.proofs.Shown.{shown-alike, shown-later, shown-none, on_row-shown}
+use Rattle.board_rows.proofs.Order.{all-seen, all_without}
 use Rattle.board_rows.proofs.Replay.{value-on_row, value-same, own-first}
 use Rattle.board_rows.proofs.Owns.{IsUnder, all-free, under-fresh}
 use Rattle.board_rows.proofs.LateSteps.{all-used}
 
 -- a session's own transaction is its last one, and open
 pub own-is : (z : ℕ) (x : Xid) (past : Past) → own z past ≡ Some x → (last_of z past ≡ Some x) × (is_open x past ≡ true)
-own-is z x past h = here (last_of z past) refl h
-  where
-    test : (y : Xid) (t : Bool) → last_of z past ≡ Some y → is_open y past ≡ t → ◌≡◌ {A = Option Xid} (cond t (Some y) None) (Some x) → (last_of z past ≡ Some x) × (is_open x past ≡ true)
-    test y false e f h = absurd (let bad : ◌≡◌ {A = Option Xid} None (Some x) = h in cc)
-    test y true e f h = let same : y ≡ x = cc in (e ∙ ap Some same, rw (sym same) f)
-
-    here : (o : Option Xid) → last_of z past ≡ o → option_and_then (λ y. cond (is_open y past) (Some y) None) o ≡ Some x → (last_of z past ≡ Some x) × (is_open x past ≡ true)
-    here None e h = absurd (let bad : ◌≡◌ {A = Option Xid} None (Some x) = h in cc)
-    here (Some y) e h = test y (is_open y past) e refl h
-
--- a record above s of one that commits hides nothing that is seen
-unseen : (s c d : ℕ) (st : Stage) → s < c → IsBelow c st → is_up_to s (durable_commit d st) ≡ false
-unseen s c d Fresh lt h = refl
-unseen s c d Active lt h = refl
-unseen s c d (Over None) lt h = refl
-unseen s c d (Over (Some e)) lt h = here (leb e d)
-  where
-    here : (t : Bool) → is_up_to s (cond t (Some e) None) ≡ false
-    here true = grind (arith, nat_tests, lt, h)
-    here false = refl
-
-below-of : (k : ℕ) (r : Record) (st : Stage) → touches k r ≡ true → EndsBy st r → IsBelow (scn_of r) st
-below-of k (Does c x seq d) st t h = h
-below-of k (TakesBack i c x seq row) st t h = h
-below-of k (Commits c x) st t h = clash false t refl
-below-of k (RollsBack i c x) st t h = clash false t refl
+own-is z x past h = grind arith
 
 -- what stood and what came since, of what stands
 abbrev pub OfRec : (DeedAt → Type 0) → Record → Type 0
@@ -62,29 +22,12 @@ OfRec P _ = Unit {0}
 
 stands-since : (P : DeedAt → Type 0) (newer there : List Record) → AllByRecursion P (stands there) → AllByRecursion (OfRec P) newer → AllByRecursion P (stands (newer ++ there))
 stands-since P [] there h n = h
-stands-since P (Does c x seq d ∷ newer) there h n = (n.0, stands-since P newer there h n.1)
-stands-since P (TakesBack i c x seq row ∷ newer) there h n = all_without P x seq row (stands (newer ++ there)) (stands-since P newer there h n.1)
-stands-since P (Commits c x ∷ newer) there h n = stands-since P newer there h n.1
-stands-since P (RollsBack i c x ∷ newer) there h n = stands-since P newer there h n.1
+stands-since P (r ∷ newer) there h n = grind (arith, cases, all_without, stands-since P newer)
 
 -- what holds of each change holds of what stands
 pub stands-from : (P : DeedAt → Type 0) (recs : List Record) → AllByRecursion (OfRec P) recs → AllByRecursion P (stands recs)
 stands-from P [] n = tt
-stands-from P (Does c x seq d ∷ recs) n = (n.0, stands-from P recs n.1)
-stands-from P (TakesBack i c x seq row ∷ recs) n = all_without P x seq row (stands recs) (stands-from P recs n.1)
-stands-from P (Commits c x ∷ recs) n = stands-from P recs n.1
-stands-from P (RollsBack i c x ∷ recs) n = stands-from P recs n.1
-
--- a deed is below its commit
-below-commit : (c d e : ℕ) (st : Stage) → IsBelow c st → durable_commit d st ≡ Some e → c < e
-below-commit c d e Fresh h f = absurd (let bad : ◌≡◌ {A = Option ℕ} None (Some e) = f in cc)
-below-commit c d e Active h f = absurd (let bad : ◌≡◌ {A = Option ℕ} None (Some e) = f in cc)
-below-commit c d e (Over None) h f = absurd (let bad : ◌≡◌ {A = Option ℕ} None (Some e) = f in cc)
-below-commit c d e (Over (Some g)) h f = here (leb g d) f
-  where
-    here : (t : Bool) → ◌≡◌ {A = Option ℕ} (cond t (Some g) None) (Some e) → c < e
-    here true f = let same : g ≡ e = cc in omega (arith, h, same)
-    here false f = absurd (let bad : ◌≡◌ {A = Option ℕ} None (Some e) = f in cc)
+stands-from P (r ∷ recs) n = grind (arith, cases, all_without, stands-from P recs)
 
 module _ (asked : ℕ → Option Range) (insts : ℕ) (b : Board) (sound : Sound asked insts b) where
   abbrev pub com_at : Xid → Option ℕ
@@ -98,18 +41,15 @@ module _ (asked : ℕ → Option Range) (insts : ℕ) (b : Board) (sound : Sound
 
   -- the records of an open transaction are up to its instance's clock
   pub live-low : AllByRecursion (λ r. is_open (xid_of r) b.past ≡ true → scn_of r ≤ b.clock (xid_of r).seg) b.records
-  live-low = all_both (λ r. scn_of r ≤ b.clock (thread_of r)) (RecordIsIn b.records (λ x. is_open x b.past)) (λ r. is_open (xid_of r) b.past ≡ true → scn_of r ≤ b.clock (xid_of r).seg) b.records (λ r le h is. (let at_seg : scn_of r ≤ b.clock (xid_of r).seg = rw (h.own (can (xid_of r) is)) at le in at_seg)) sound.clocks.drawn sound.txns.each_record
+  live-low = all_both _ _ _ b.records one sound.clocks.drawn sound.txns.each_record
     where
-      can : (x : Xid) → is_open x b.past ≡ true → CanCommit (is_open x b.past) (stage x b.records)
-      can x is = rw ((sound.txns.each x).active is) is
+      one : (r : Record) → scn_of r ≤ b.clock (thread_of r) → RecordIsIn b.records (λ x. is_open x b.past) r → is_open (xid_of r) b.past ≡ true → scn_of r ≤ b.clock (xid_of r).seg
+      one r le h is = grind (arith, sound.txns.each (xid_of r))
 
   -- what is seen on the newest board
   pub seen-value : (z s k : ℕ) → value_by (changes_of (shown k (λ y. is_own (own z b.past) y || seen_at s com_at y) (stands b.records))) k ≡ sees (history b.past) b.past (record { session = z; snapshot = s }) k
   seen-value z s k = here (own z b.past) refl
     where
-      mine : Option Xid → List Change
-      mine o = option_map_or (λ x. changes_of (standing x b.past)) o []
-
       here : (o : Option Xid) → own z b.past ≡ o → value_by (changes_of (shown k (λ y. is_own o y || seen_at s com_at y) (stands b.records))) k ≡ value_by (option_map_or (λ x. changes_of (standing x b.past)) o [] ++ changes_up_to s (history b.past)) k
       here None e = ap (λ cs. value_by cs k) (sym (sound.rows.table s k)) ∙ value-on_row k (changes_up_to s (history b.past))
       here (Some x) e =
@@ -135,12 +75,10 @@ module _ (asked : ℕ → Option Range) (insts : ℕ) (b : Board) (sound : Sound
     IsLater r = touches k r ≡ true → (s < scn_of r) × (is_own (own z b.past) (xid_of r) ≡ false)
 
     hidden : AllByRecursion (λ r. touches k r ≡ true → Seen (xid_of r) ≡ false) newer
-    hidden = all_both IsLater (RecordIsIn b.records (λ x. is_open x b.past)) (λ r. touches k r ≡ true → Seen (xid_of r) ≡ false) newer one look.later ends
+    hidden = all_both _ _ _ newer one look.later ends
       where
         one : (r : Record) → IsLater r → RecordIsIn b.records (λ x. is_open x b.past) r → touches k r ≡ true → Seen (xid_of r) ≡ false
-        one r later e t =
-            let f = later t in
-            rw (f.1, (sound.txns.each (xid_of r)).commits) (unseen s (scn_of r) (b.durable (xid_of r).seg) (stage (xid_of r) b.records) f.0 (below-of k r (stage (xid_of r) b.records) t e.ends))
+        one r later e t = grind (arith, cases, sound.txns.each (xid_of r))
 
     abbrev IsTold : DeedAt → Type 0
     IsTold m = on k m ≡ true → (is_own (own z b.past) m.xid ≡ true) ⊎ ((status m.xid ≡ seen_at s com_at m.xid) × IsLateHere b s m.xid)
@@ -149,7 +87,7 @@ module _ (asked : ℕ → Option Range) (insts : ℕ) (b : Board) (sound : Sound
     pub look-sees : value_there b z k there status ≡ sees (history b.past) b.past (record { session = z; snapshot = s }) k
     look-sees =
         ap (λ ds. value_by (changes_of ds) k)
-        (shown-alike k (λ x. is_own (own z b.past) x || status x) Seen (stands there) (all_map IsTold (λ m. on k m ≡ true → (is_own (own z b.past) m.xid || status m.xid) ≡ Seen m.xid) (stands there) one look.told)
+        (shown-alike k (λ x. is_own (own z b.past) x || status x) Seen (stands there) (all_map IsTold _ (stands there) one look.told)
         ∙ (sym (shown-later k Seen newer there hidden) ∙ ap (λ recs. shown k Seen (stands recs)) (sym look.image)))
         ∙ seen-value z s k
       where
@@ -160,52 +98,25 @@ module _ (asked : ℕ → Option Range) (insts : ℕ) (b : Board) (sound : Sound
     IsLateOn m = on k m ≡ true → IsLateHere b s m.xid
 
     own-low : (x : Xid) → is_own (own z b.past) x ≡ true → (stage x b.records ≡ Active) × (s ≤ b.clock x.seg)
-    own-low x e = here (own z b.past) refl e
-      where
-        here : (o : Option Xid) → own z b.past ≡ o → is_own o x ≡ true → (stage x b.records ≡ Active) × (s ≤ b.clock x.seg)
-        here None f e = clash false e refl
-        here (Some y) f e =
-            let same : y ≡ x = same_xid-true y x e in
-            let is = own-is z y b.past f in
-            let at_home : Some i ≡ Some y.seg = sym look.home ∙ sound.sessions.at_home z y is.0 in
-            let seg : i ≡ y.seg = cc in
-            (rw (sym same) ((sound.txns.each y).active is.1), (let low = look.low in rw (sym same, sym seg) low))
-
-    late-of : (c : ℕ) (x : Xid) (st : Stage) → stage x b.records ≡ st → s < c → IsBelow c st → (is_open x b.past ≡ true → c ≤ b.clock x.seg) → IsLate s (is_open x b.past) st (b.clock x.seg)
-    late-of c x Fresh is lt h low = λ e. (let a = low e in omega arith)
-    late-of c x Active is lt h low = λ e. (let a = low e in omega arith)
-    late-of c x (Over None) is lt h low = tt
-    late-of c x (Over (Some e)) is lt h low = omega (arith, lt, h)
+    own-low x e = grind arith
 
     -- and no commit will change it
     pub look-late : AllByRecursion IsLateOn (stands b.records)
-    look-late = subst (λ recs. AllByRecursion IsLateOn (stands recs)) (sym look.image) (stands-since IsLateOn newer there (all_map IsTold IsLateOn (stands there) old look.told) (since newer look.later ends below))
+    look-late = subst (λ recs. AllByRecursion IsLateOn (stands recs)) (sym look.image) (stands-since IsLateOn newer there (all_map IsTold IsLateOn (stands there) old look.told) (all_both IsLater _ _ newer (λ r later g. since r later g.0 g.1) look.later (all_pair _ _ newer ends below)))
       where
-        low_late : (x : Xid) (st : Stage) → st ≡ Active → s ≤ b.clock x.seg → IsLate s (is_open x b.past) st (b.clock x.seg)
-        low_late x Active is le = λ _. le
-        low_late x Fresh is le = λ _. le
-        low_late x (Over o) is le = (cc)
-
         old : (m : DeedAt) → IsTold m → IsLateOn m
-        old m told a new = elim (told a) [ inl e ↦ (let l = own-low m.xid e in low_late m.xid (stage m.xid b.records) l.0 l.1) | inr e ↦ e.1 new ]
+        old m told a new = grind (arith, own-low m.xid)
 
-        since : (newer : List Record) → AllByRecursion IsLater newer → AllByRecursion (RecordIsIn b.records (λ x. is_open x b.past)) newer → AllByRecursion (λ r. is_open (xid_of r) b.past ≡ true → scn_of r ≤ b.clock (xid_of r).seg) newer → AllByRecursion (OfRec IsLateOn) newer
-        since [] h e low = tt
-        since (Does c x seq d ∷ newer) h e low = ((λ a new. late-of c x (stage x b.records) refl (h.0 a).0 e.0.ends low.0), since newer h.1 e.1 low.1)
-        since (TakesBack j c x seq row ∷ newer) h e low = (tt, since newer h.1 e.1 low.1)
-        since (Commits c x ∷ newer) h e low = (tt, since newer h.1 e.1 low.1)
-        since (RollsBack j c x ∷ newer) h e low = (tt, since newer h.1 e.1 low.1)
+        since : (r : Record) → IsLater r → RecordIsIn b.records (λ x. is_open x b.past) r → (is_open (xid_of r) b.past ≡ true → scn_of r ≤ b.clock (xid_of r).seg) → OfRec IsLateOn r
+        since r later e low = grind (arith, cases)
 
   -- a change is a look at the row as it stands
   module _ (n z s : ℕ) (x : Xid) (seq : ℕ) (deed : Deed) (may : MayChange b n z s x seq deed) where
     low-deeds : AllByRecursion (IsUnder com_at) (stands b.records)
-    low-deeds = stands-from (IsUnder com_at) b.records (all_map (RecordIsIn b.records (λ y. is_open y b.past)) (OfRec (IsUnder com_at)) b.records one sound.txns.each_record)
+    low-deeds = stands-from (IsUnder com_at) b.records (all_map _ _ b.records one sound.txns.each_record)
       where
         one : (r : Record) → RecordIsIn b.records (λ y. is_open y b.past) r → OfRec (IsUnder com_at) r
-        one (Does c y number d) h = λ e f. below-commit c (b.durable y.seg) e (stage y b.records) h.ends (sym (sound.txns.each y).commits ∙ f)
-        one (TakesBack j c y number k) h = tt
-        one (Commits c y) h = tt
-        one (RollsBack j c y) h = tt
+        one r h = grind (arith, cases, sound.txns.each (xid_of r))
 
     under : FreeUnder com_at s x (stands b.records)
     under = elim may.mine [
@@ -221,39 +132,27 @@ module _ (asked : ℕ → Option Range) (insts : ℕ) (b : Board) (sound : Sound
     IsTold2 m = on (row_of deed) m ≡ true → (is_own (own z b.past) m.xid ≡ true) ⊎ ((seen_at s com_at m.xid ≡ seen_at s com_at m.xid) × IsLateHere b s m.xid)
 
     told : AllByRecursion IsTold2 (stands b.records)
-    told = all_both (λ m. stage m.xid b.records ≡ Fresh → ⊥) (IsFree com_at s x (row_of deed)) IsTold2 (stands b.records) one (all-used b.records) changes-free
+    told = all_both _ _ _ (stands b.records) one (all-used b.records) changes-free
       where
-        late : (m : DeedAt) (o : Option ℕ) → com_at m.xid ≡ o → IsSomeAnd o (λ c. c ≤ s) → IsLateHere b s m.xid
-        late m None e l = absurd l
-        late m (Some c) e l = λ none. absurd (let bad : None ≡ Some c = sym none ∙ e in cc)
-
         one : (m : DeedAt) → (stage m.xid b.records ≡ Fresh → ⊥) → IsFree com_at s x (row_of deed) m → IsTold2 m
-        one m used free a = elim (free a) [
-          | inl e ↦ elim may.mine [ inl o ↦ inl (rw (o, e) (same_xid-refl x)) | inr o ↦ absurd (used (rw e o.1)) ]
-          | inr l ↦ inr (refl, late m (com_at m.xid) refl l)
-        ]
+        one m used free a = grind (arith, cases, may.mine)
 
     pub looks : MayLook b z x.seg s (row_of deed) [] b.records (seen_at s com_at)
     looks = record { home = may.home; low = may.low; image = refl; later = tt; told = told }
 
+    abbrev Sees : Xid → Bool
+    Sees y = is_own (own z b.past) y || seen_at s com_at y
+
     -- what stands in the row is what the session sees there
     pub change-sees : value_by (changes_of (deeds_in (stands b.records))) (row_of deed) ≡ sees (history b.past) b.past (record { session = z; snapshot = s }) (row_of deed)
     change-sees =
-        value-same (row_of deed) (changes_of (deeds_in (stands b.records))) (changes_of (shown (row_of deed) (λ y. is_own (own z b.past) y || seen_at s com_at y) (stands b.records)))
-        (all-seen (row_of deed) s x com_at (stands b.records) changes-free ∙ (ap changes_of (whose may.mine) ∙ shown-on))
+        value-same (row_of deed) (changes_of (deeds_in (stands b.records))) (changes_of (shown (row_of deed) Sees (stands b.records)))
+        (all-seen (row_of deed) s x com_at (stands b.records) changes-free ∙ (ap changes_of (whose may.mine) ∙ sym (on_row-shown (row_of deed) Sees (stands b.records))))
         ∙ seen-value z s (row_of deed)
       where
-        mods : List DeedAt
-        mods = stands b.records
+        none : (m : DeedAt) → (stage m.xid b.records ≡ Fresh → ⊥) → stage x b.records ≡ Fresh → on (row_of deed) m ≡ true → same_xid x m.xid ≡ false
+        none m used f a = grind (arith, cases)
 
-        whose : (own z b.past ≡ Some x) ⊎ ((own z b.past ≡ None) × (stage x b.records ≡ Fresh) × (x.wrap ≡ suc (wrap_in x.seg x.slot b.records))) → shown (row_of deed) (λ y. same_xid x y || seen_at s com_at y) mods ≡ shown (row_of deed) (λ y. is_own (own z b.past) y || seen_at s com_at y) mods
+        whose : (own z b.past ≡ Some x) ⊎ ((own z b.past ≡ None) × (stage x b.records ≡ Fresh) × (x.wrap ≡ suc (wrap_in x.seg x.slot b.records))) → shown (row_of deed) (λ y. same_xid x y || seen_at s com_at y) (stands b.records) ≡ shown (row_of deed) (λ y. is_own (own z b.past) y || seen_at s com_at y) (stands b.records)
         whose (inl o) = rw o refl
-        whose (inr o) =
-            rw o.0 (shown-none (row_of deed) (same_xid x) (seen_at s com_at) mods (all_map (λ m. stage m.xid b.records ≡ Fresh → ⊥) (λ m. on (row_of deed) m ≡ true → same_xid x m.xid ≡ false) mods (λ m used a. none m used (same_xid x m.xid) refl) (all-used b.records)))
-          where
-            none : (m : DeedAt) → (stage m.xid b.records ≡ Fresh → ⊥) → (t : Bool) → same_xid x m.xid ≡ t → t ≡ false
-            none m used false e = refl
-            none m used true e = absurd (used (rw (sym (same_xid-true x m.xid e)) o.1))
-
-        shown-on : changes_of (shown (row_of deed) (λ y. is_own (own z b.past) y || seen_at s com_at y) mods) ≡ on_row (row_of deed) (changes_of (shown (row_of deed) (λ y. is_own (own z b.past) y || seen_at s com_at y) mods))
-        shown-on = sym (on_row-shown (row_of deed) (λ y. is_own (own z b.past) y || seen_at s com_at y) mods)
+        whose (inr o) = rw o.0 (shown-none (row_of deed) (same_xid x) (seen_at s com_at) (stands b.records) (all_map _ _ (stands b.records) (λ m used. none m used o.1) (all-used b.records)))

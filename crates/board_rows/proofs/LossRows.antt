@@ -1,22 +1,12 @@
 -- The clauses on rows are kept by a loss: what vanishes of a row is its newest.
-use Rattle.std.proofs.Common.{◌≡◌, ℕ, Bool, true, false, cond, ◌&&◌, ◌==◌, List, [], ◌∷◌, refl, sym, ap, ◌∙◌, subst, inl}
-use Rattle.std.specs.Prelude.{Option}
+use Rattle.std.proofs.Common.{◌≡◌, ℕ, Bool, true, false, cond, ◌==◌, List, [], ◌∷◌, refl, sym, ap, ◌∙◌, subst, inl, arith, Option}
 use Rattle.std.specs.List.{AllByRecursion, filter}
-use Rattle.std.proofs.lemmas.Bool.{eq-eqb, eqb-true}
-use Rattle.base_types.specs.declared.names.Xid.{Xid}
-use Rattle.journal.specs.declared.deeds.Change.{Change}
-use Rattle.journal.specs.declared.deeds.Deed.{Deed}
-use Rattle.journal.specs.declared.deeds.Deed.TheVariants.{Changes, Locks}
-use Rattle.journal.specs.Standing.{row_of, changes_of}
-use Rattle.journal.specs.History.{value_by}
-use Rattle.journal.specs.Good.{Replays}
-use Rattle.board_rows.specs.Board.{Record, Does, TakesBack, Commits, RollsBack, DeedAt, xid_of, touches, is_that, without, stands_after, stands, EachSuffix}
-use Rattle.board_rows.specs.Rows.{FreeUnder, on, shown, on_row, deeds_in, IsOver, Ordered}
-use Rattle.board_rows.specs.Events.{is_kept, AreNear}
-use Rattle.board_rows.proofs.Shown.{all_map, clash, that-is, shown-later}
+use Rattle.board_rows.proofs.Words.{Xid, Change, row_of, changes_of, value_by, Replays, Record, DeedAt, xid_of, touches, without, stands_after, stands, EachSuffix, FreeUnder, on, shown, on_row, deeds_in, Ordered, is_kept, AreNear, EachPair}
+use Rattle.board_rows.proofs.Lists.{cases, pair_filter, all_map, clash}
+use Rattle.board_rows.proofs.Shown.{shown-later}
+use Rattle.board_rows.proofs.Order.{pair_from}
 use Rattle.board_rows.proofs.Replay.{value-on_row}
-use Rattle.board_rows.proofs.Owns.{under-on, under-from}
-use Rattle.board_rows.proofs.Losses.{KeepsUnder, all_filter, Kept}
+use Rattle.board_rows.proofs.Losses.{KeepsUnder, Kept}
 
 -- what stands on a row
 abbrev pub mods_on : ℕ → List DeedAt → List DeedAt
@@ -24,162 +14,88 @@ mods_on k mods = filter (on k) mods
 
 without-other : (k : ℕ) (x : Xid) (seq row : ℕ) (mods : List DeedAt) → (row == k) ≡ false → mods_on k (without x seq row mods) ≡ mods_on k mods
 without-other k x seq row [] h = refl
-without-other k x seq row (m ∷ mods) h = here (is_that x seq row m) refl (without-other k x seq row mods h)
-  where
-    here : (t : Bool) → is_that x seq row m ≡ t → mods_on k (without x seq row mods) ≡ mods_on k mods → mods_on k (cond t mods (m ∷ without x seq row mods)) ≡ cond (on k m) (m ∷ mods_on k mods) (mods_on k mods)
-    here true e ih = let off : on k m ≡ false = rw (sym (that-is x seq row m e).1) h in rw off refl
-    here false e ih = ap (λ ms. cond (on k m) (m ∷ ms) ms) ih
+without-other k x seq row (m ∷ mods) h = grind (arith, without-other k x seq row mods h)
 
 without-on : (k : ℕ) (x : Xid) (seq row : ℕ) (mods : List DeedAt) → (row == k) ≡ true → mods_on k (without x seq row mods) ≡ without x seq row (mods_on k mods)
 without-on k x seq row [] h = refl
-without-on k x seq row (m ∷ mods) h = here (is_that x seq row m) (on k m) refl refl (without-on k x seq row mods h)
-  where
-    here : (t o : Bool) → is_that x seq row m ≡ t → on k m ≡ o → mods_on k (without x seq row mods) ≡ without x seq row (mods_on k mods) → mods_on k (cond t mods (m ∷ without x seq row mods)) ≡ without x seq row (cond o (m ∷ mods_on k mods) (mods_on k mods))
-    here true true e f ih = rw e refl
-    here true false e f ih = clash (on k m) (rw (sym (that-is x seq row m e).1) h) f
-    here false true e f ih = rw (e, f) (ap (λ ms. m ∷ ms) ih)
-    here false false e f ih = rw f ih
+without-on k x seq row (m ∷ mods) h = grind (arith, without-on k x seq row mods h)
 
 -- a record goes by what stands on its row, and leaves other rows
 after-same : (k : ℕ) (r : Record) (xs ys : List DeedAt) → mods_on k xs ≡ mods_on k ys → mods_on k (stands_after r xs) ≡ mods_on k (stands_after r ys)
-after-same k (Does c x seq d) xs ys e = ap (λ (ms : List DeedAt). cond (row_of d == k) (record { xid = x; seq = seq; scn = c; deed = d } ∷ ms) ms) e
-after-same k (Commits c x) xs ys e = e
-after-same k (RollsBack j c x) xs ys e = e
-after-same k (TakesBack j c x seq row) xs ys e = here (row == k) refl
-  where
-    here : (t : Bool) → (row == k) ≡ t → mods_on k (without x seq row xs) ≡ mods_on k (without x seq row ys)
-    here false f = without-other k x seq row xs f ∙ (e ∙ sym (without-other k x seq row ys f))
-    here true f = without-on k x seq row xs f ∙ (ap (without x seq row) e ∙ sym (without-on k x seq row ys f))
+after-same k r xs ys e = grind (arith, cases, without-other, without-on)
 
 after-other : (k : ℕ) (r : Record) (xs : List DeedAt) → touches k r ≡ false → mods_on k (stands_after r xs) ≡ mods_on k xs
-after-other k (Does c x seq d) xs e = rw e refl
-after-other k (TakesBack j c x seq row) xs e = without-other k x seq row xs e
-after-other k _ xs e = refl
-
--- order, replay and what is shown go by rows
-Ordered-on : (k : ℕ) (committed : Xid → Option ℕ) (mods : List DeedAt) → Ordered committed mods → Ordered committed (mods_on k mods)
-Ordered-on k committed [] h = tt
-Ordered-on k committed (m ∷ mods) h = here (on k m) (Ordered-on k committed mods h.1)
-  where
-    here : (t : Bool) → Ordered committed (mods_on k mods) → Ordered committed (cond t (m ∷ mods_on k mods) (mods_on k mods))
-    here true ih = (all_map (λ o. (on k o ≡ true) × IsOver committed m o) (IsOver committed m) (mods_on k mods) (λ o h. h.1) (all_filter (IsOver committed m) (on k) mods h.0), ih)
-    here false ih = ih
-
-Ordered-from : (committed : Xid → Option ℕ) (mods : List DeedAt) → ((k : ℕ) → Ordered committed (mods_on k mods)) → Ordered committed mods
-Ordered-from committed [] h = tt
-Ordered-from committed (m ∷ mods) h = (head, Ordered-from committed mods (λ k. tail k (on k m) (h k)))
-  where
-    tail : (k : ℕ) (t : Bool) → Ordered committed (cond t (m ∷ mods_on k mods) (mods_on k mods)) → Ordered committed (mods_on k mods)
-    tail k true g = g.1
-    tail k false g = g
-
-    all : (os : List DeedAt) → AllByRecursion (IsOver committed m) (mods_on (row_of m.deed) os) → AllByRecursion (IsOver committed m) os
-    all [] g = tt
-    all (o ∷ os) g = here (on (row_of m.deed) o) refl g (λ g. all os g)
-      where
-        here : (t : Bool) → on (row_of m.deed) o ≡ t → AllByRecursion (IsOver committed m) (cond t (o ∷ mods_on (row_of m.deed) os) (mods_on (row_of m.deed) os)) → (AllByRecursion (IsOver committed m) (mods_on (row_of m.deed) os) → AllByRecursion (IsOver committed m) os) → IsOver committed m o × AllByRecursion (IsOver committed m) os
-        here true e g ih = (g.0, ih g.1)
-        here false e g ih = ((λ a. clash (on (row_of m.deed) o) a e), ih g)
-
-    head : AllByRecursion (IsOver committed m) mods
-    head = all mods (let own : Ordered committed (cond true (m ∷ mods_on (row_of m.deed) mods) (mods_on (row_of m.deed) mods)) = (let g = h (row_of m.deed) in let same : on (row_of m.deed) m ≡ true = eq-eqb (row_of m.deed) (row_of m.deed) refl in rw same at g) in own.0)
+after-other k r xs e = grind (arith, cases, without-other)
 
 Replays-on : (k : ℕ) (changes : List Change) → Replays changes → Replays (on_row k changes)
 Replays-on k [] h = tt
-Replays-on k (change ∷ older) h = here (change.row == k) refl (Replays-on k older h.1)
-  where
-    here : (t : Bool) → (change.row == k) ≡ t → Replays (on_row k older) → Replays (cond t (change ∷ on_row k older) (on_row k older))
-    here true e ih = (h.0 ∙ (let same : change.row ≡ k = eqb-true change.row k e in rw same (sym (value-on_row k older))), ih)
-    here false e ih = ih
+Replays-on k (change ∷ older) h = grind (arith, cases, value-on_row, Replays-on k older h.1)
 
 Replays-from : (changes : List Change) → ((k : ℕ) → Replays (on_row k changes)) → Replays changes
 Replays-from [] h = tt
-Replays-from (change ∷ older) h = (head (h change.row), Replays-from older (λ k. tail k (change.row == k) (h k)))
+Replays-from (change ∷ older) h = (head (h change.row), Replays-from older (λ k. tail k (h k)))
   where
-    tail : (k : ℕ) (t : Bool) → Replays (cond t (change ∷ on_row k older) (on_row k older)) → Replays (on_row k older)
-    tail k true g = g.1
-    tail k false g = g
-
-    first : (t : Bool) → t ≡ true → Replays (cond t (change ∷ on_row change.row older) (on_row change.row older)) → change.found ≡ value_by (on_row change.row older) change.row
-    first true e g = g.0
-    first false e g = clash false e refl
+    tail : (k : ℕ) → Replays (on_row k (change ∷ older)) → Replays (on_row k older)
+    tail k g = grind arith
 
     head : Replays (on_row change.row (change ∷ older)) → change.found ≡ value_by older change.row
-    head g = first (change.row == change.row) (eq-eqb change.row change.row refl) g ∙ value-on_row change.row older
+    head g = grind (arith, cases, value-on_row)
 
 on_row-mods : (k : ℕ) (mods : List DeedAt) → on_row k (changes_of (deeds_in mods)) ≡ changes_of (deeds_in (mods_on k mods))
 on_row-mods k [] = refl
-on_row-mods k (m ∷ mods) = here m.deed (row_of m.deed == k) refl (on_row-mods k mods)
-  where
-    here : (d : Deed) (t : Bool) → (row_of d == k) ≡ t → on_row k (changes_of (deeds_in mods)) ≡ changes_of (deeds_in (mods_on k mods))
-        → on_row k (changes_of (d ∷ deeds_in mods)) ≡ changes_of (deeds_in (cond t (record m { deed = d } ∷ mods_on k mods) (mods_on k mods)))
-    here (Changes change) true e ih = rw e (ap (λ cs. change ∷ cs) ih)
-    here (Changes change) false e ih = rw e ih
-    here (Locks row) true e ih = ih
-    here (Locks row) false e ih = ih
+on_row-mods k (m ∷ mods) = grind (arith, on_row-mods k mods)
 
 shown-on : (k : ℕ) (test : Xid → Bool) (mods : List DeedAt) → shown k test (mods_on k mods) ≡ shown k test mods
 shown-on k test [] = refl
-shown-on k test (m ∷ mods) = here (on k m) refl (shown-on k test mods)
-  where
-    here : (t : Bool) → on k m ≡ t → shown k test (mods_on k mods) ≡ shown k test mods → shown k test (cond t (m ∷ mods_on k mods) (mods_on k mods)) ≡ cond (t && test m.xid) (m.deed ∷ shown k test mods) (shown k test mods)
-    here true e ih = rw e (ap (λ ds. cond (test m.xid) (m.deed ∷ ds) ds) ih)
-    here false e ih = ih
+shown-on k test (m ∷ mods) = grind (arith, shown-on k test mods)
 
 -- under a record that is kept all of its row is kept
-near-row : (i kept k : ℕ) (r : Record) (recs : List Record) → touches k r ≡ true → AllByRecursion (λ o. AreNear r o → is_kept i kept o ≡ true) recs → AllByRecursion (λ o. touches k o ≡ true → is_kept i kept o ≡ true) recs
-near-row i kept k r recs t h = all_map (λ o. AreNear r o → is_kept i kept o ≡ true) (λ o. touches k o ≡ true → is_kept i kept o ≡ true) recs (λ o f u. f (inl (k, t, u))) h
+near-row : (i kept k : ℕ) (r : Record) (recs : List Record) → touches k r ≡ true → is_kept i kept r ≡ true → AllByRecursion (λ o. is_kept i kept r ≡ true → AreNear r o → is_kept i kept o ≡ true) recs → AllByRecursion (λ o. touches k o ≡ true → is_kept i kept o ≡ true) recs
+near-row i kept k r recs t e = all_map _ _ recs (λ o f u. f e (inl (k, t, u)))
 
 module _ (i kept : ℕ) where
   -- a row of which every record is kept
   row-kept : (k : ℕ) (recs : List Record) → AllByRecursion (λ o. touches k o ≡ true → is_kept i kept o ≡ true) recs → mods_on k (stands (filter (Kept i kept) recs)) ≡ mods_on k (stands recs)
   row-kept k [] h = refl
-  row-kept k (r ∷ recs) h = here (Kept i kept r) refl (touches k r) refl (row-kept k recs h.1)
-    where
-      here : (t : Bool) → Kept i kept r ≡ t → (u : Bool) → touches k r ≡ u → mods_on k (stands (filter (Kept i kept) recs)) ≡ mods_on k (stands recs) → mods_on k (stands (cond t (r ∷ filter (Kept i kept) recs) (filter (Kept i kept) recs))) ≡ mods_on k (stands (r ∷ recs))
-      here true e u f ih = after-same k r (stands (filter (Kept i kept) recs)) (stands recs) ih
-      here false e false f ih = ih ∙ sym (after-other k r (stands recs) f)
-      here false e true f ih = clash (Kept i kept r) (h.0 f) e
+  row-kept k (r ∷ recs) h = grind (arith, cases, Kept, after-same, after-other, row-kept k recs h.1)
 
   -- each row is as it was on an earlier board
   row-before : (P : List Record → Type 0) (k : ℕ) (recs : List Record) → KeepsUnder i kept recs → EachSuffix P recs → (older : List Record) × P older × (mods_on k (stands (filter (Kept i kept) recs)) ≡ mods_on k (stands older))
   row-before P k [] l h = ([], h, refl)
-  row-before P k (r ∷ recs) l h = here (Kept i kept r) refl (touches k r) refl (row-before P k recs l.1 h.1)
+  row-before P k (r ∷ recs) l h = by (Kept i kept r) refl (touches k r) refl (row-before P k recs l.1 h.1)
     where
-      here : (t : Bool) → Kept i kept r ≡ t → (u : Bool) → touches k r ≡ u → (older : List Record) × P older × (mods_on k (stands (filter (Kept i kept) recs)) ≡ mods_on k (stands older))
+      by : (t : Bool) → Kept i kept r ≡ t → (u : Bool) → touches k r ≡ u → (older : List Record) × P older × (mods_on k (stands (filter (Kept i kept) recs)) ≡ mods_on k (stands older))
           → (older : List Record) × P older × (mods_on k (stands (cond t (r ∷ filter (Kept i kept) recs) (filter (Kept i kept) recs))) ≡ mods_on k (stands older))
-      here false e u f ih = ih
-      here true e false f ih = (ih.0, ih.1, after-other k r (stands (filter (Kept i kept) recs)) f ∙ ih.2)
-      here true e true f ih = (r ∷ recs, h.0, after-same k r (stands (filter (Kept i kept) recs)) (stands recs) (row-kept k recs (near-row i kept k r recs f (l.0 e))))
+      by false e u f ih = ih
+      by true e false f ih = (ih.0, ih.1, after-other k r (stands (filter (Kept i kept) recs)) f ∙ ih.2)
+      by true e true f ih = (r ∷ recs, h.0, after-same k r (stands (filter (Kept i kept) recs)) (stands recs) (row-kept k recs (near-row i kept k r recs f e l.0)))
 
   -- earlier boards of what is left
   suffix-kept : (P Q : List Record → Type 0) → ((recs : List Record) → KeepsUnder i kept recs → EachSuffix P recs → Q (filter (Kept i kept) recs)) → (recs : List Record) → KeepsUnder i kept recs → EachSuffix P recs → EachSuffix Q (filter (Kept i kept) recs)
   suffix-kept P Q f [] l h = f [] l h
-  suffix-kept P Q f (r ∷ recs) l h = here (Kept i kept r) (f (r ∷ recs) l h) (suffix-kept P Q f recs l.1 h.1)
-    where
-      here : (t : Bool) → Q (cond t (r ∷ filter (Kept i kept) recs) (filter (Kept i kept) recs)) → EachSuffix Q (filter (Kept i kept) recs) → EachSuffix Q (cond t (r ∷ filter (Kept i kept) recs) (filter (Kept i kept) recs))
-      here true q ih = (q, ih)
-      here false q ih = ih
+  suffix-kept P Q f (r ∷ recs) l h = grind (arith, f (r ∷ recs) l h, suffix-kept P Q f recs l.1 h.1)
 
   -- what is seen of a row is as before, where nothing that vanishes is seen
   pub shown-kept : (k : ℕ) (test : Xid → Bool) (recs : List Record) → KeepsUnder i kept recs → AllByRecursion (λ r. is_kept i kept r ≡ false → touches k r ≡ true → test (xid_of r) ≡ false) recs → shown k test (stands (filter (Kept i kept) recs)) ≡ shown k test (stands recs)
   shown-kept k test [] l h = refl
-  shown-kept k test (r ∷ recs) l h = here (Kept i kept r) refl (touches k r) refl (shown-kept k test recs l.1 h.1)
+  shown-kept k test (r ∷ recs) l h = by (Kept i kept r) refl (touches k r) refl (shown-kept k test recs l.1 h.1)
     where
       by_mods : (xs ys : List DeedAt) → mods_on k xs ≡ mods_on k ys → shown k test xs ≡ shown k test ys
       by_mods xs ys e = sym (shown-on k test xs) ∙ (ap (shown k test) e ∙ shown-on k test ys)
 
-      here : (t : Bool) → Kept i kept r ≡ t → (u : Bool) → touches k r ≡ u → shown k test (stands (filter (Kept i kept) recs)) ≡ shown k test (stands recs) → shown k test (stands (cond t (r ∷ filter (Kept i kept) recs) (filter (Kept i kept) recs))) ≡ shown k test (stands (r ∷ recs))
-      here false e u f ih = ih ∙ sym (shown-later k test (r ∷ []) recs (h.0 e, tt))
-      here true e false f ih =
-          by_mods (stands_after r (stands (filter (Kept i kept) recs))) (stands (filter (Kept i kept) recs)) (after-other k r (stands (filter (Kept i kept) recs)) f)
-          ∙ (ih ∙ by_mods (stands recs) (stands_after r (stands recs)) (sym (after-other k r (stands recs) f)))
-      here true e true f ih = by_mods (stands_after r (stands (filter (Kept i kept) recs))) (stands_after r (stands recs)) (after-same k r (stands (filter (Kept i kept) recs)) (stands recs) (row-kept k recs (near-row i kept k r recs f (l.0 e))))
+      by : (t : Bool) → Kept i kept r ≡ t → (u : Bool) → touches k r ≡ u → shown k test (stands (filter (Kept i kept) recs)) ≡ shown k test (stands recs) → shown k test (stands (cond t (r ∷ filter (Kept i kept) recs) (filter (Kept i kept) recs))) ≡ shown k test (stands (r ∷ recs))
+      by false e u f ih = ih ∙ sym (shown-later k test (r ∷ []) recs (h.0 e, tt))
+      by true e false f ih = by_mods _ (stands (filter (Kept i kept) recs)) (after-other k r _ f) ∙ (ih ∙ by_mods (stands recs) _ (sym (after-other k r (stands recs) f)))
+      by true e true f ih = by_mods _ _ (after-same k r (stands (filter (Kept i kept) recs)) (stands recs) (row-kept k recs (near-row i kept k r recs f e l.0)))
 
   -- the order and the replay are kept
+  -- what holds of each pair on each earlier board, where what stands on two rows is apart
+  pairs-kept : (R : DeedAt → DeedAt → Type 0) → ((m o : DeedAt) → on (row_of m.deed) o ≡ false → R m o) → (recs : List Record) → KeepsUnder i kept recs → EachSuffix (λ older. EachPair R (stands older)) recs → EachSuffix (λ older. EachPair R (stands older)) (filter (Kept i kept) recs)
+  pairs-kept R apart = suffix-kept (λ older. EachPair R (stands older)) (λ older. EachPair R (stands older)) (λ recs l h.
+      pair_from R apart (stands (filter (Kept i kept) recs)) (λ k. (let b = row-before (λ older. EachPair R (stands older)) k recs l h in subst (EachPair R) (sym b.2) (pair_filter R (on k) (stands b.0) b.1))))
+
   pub order-kept : (committed : Xid → Option ℕ) (recs : List Record) → KeepsUnder i kept recs → EachSuffix (λ older. Ordered committed (stands older)) recs → EachSuffix (λ older. Ordered committed (stands older)) (filter (Kept i kept) recs)
-  order-kept committed = suffix-kept (λ older. Ordered committed (stands older)) (λ older. Ordered committed (stands older)) (λ recs l h.
-      Ordered-from committed (stands (filter (Kept i kept) recs)) (λ k. (let b = row-before (λ older. Ordered committed (stands older)) k recs l h in subst (Ordered committed) (sym b.2) (Ordered-on k committed (stands b.0) b.1))))
+  order-kept committed = pairs-kept _ (λ m o e a. clash (on (row_of m.deed) o) a e)
 
   pub replay-kept : (recs : List Record) → KeepsUnder i kept recs → EachSuffix (λ older. Replays (changes_of (deeds_in (stands older)))) recs → EachSuffix (λ older. Replays (changes_of (deeds_in (stands older)))) (filter (Kept i kept) recs)
   replay-kept = suffix-kept (λ older. Replays (changes_of (deeds_in (stands older)))) (λ older. Replays (changes_of (deeds_in (stands older)))) (λ recs l h.
@@ -188,5 +104,4 @@ module _ (i kept : ℕ) where
       subst Replays (sym same) (Replays-on k (changes_of (deeds_in (stands b.0))) b.1))))
 
   pub under-kept : (committed : Xid → Option ℕ) (s : ℕ) (x : Xid) (recs : List Record) → KeepsUnder i kept recs → EachSuffix (λ older. FreeUnder committed s x (stands older)) recs → EachSuffix (λ older. FreeUnder committed s x (stands older)) (filter (Kept i kept) recs)
-  under-kept committed s x = suffix-kept (λ older. FreeUnder committed s x (stands older)) (λ older. FreeUnder committed s x (stands older)) (λ recs l h.
-      under-from committed s x (stands (filter (Kept i kept) recs)) (λ k. (let b = row-before (λ older. FreeUnder committed s x (stands older)) k recs l h in subst (FreeUnder committed s x) (sym b.2) (under-on k committed s x (stands b.0) b.1))))
+  under-kept committed s x = pairs-kept _ (λ m o e f a. clash (on (row_of m.deed) o) a e)

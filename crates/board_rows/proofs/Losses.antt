@@ -1,34 +1,14 @@
 -- What a loss leaves of the board.
-use Rattle.std.proofs.Common.{◌≡◌, ℕ, ◌<◌, ◌≤◌, Bool, true, false, cond, ◌==◌, leb, List, [], ◌∷◌, refl, sym, ap, ◌∙◌, arith, inr}
-use Rattle.std.specs.Prelude.{Option, Some, None}
+use Rattle.board_rows.proofs.Lists.{cases}
+use Rattle.std.proofs.Common.{◌≡◌, ◌≢◌, ℕ, ◌<◌, ◌≤◌, Bool, true, false, ◌==◌, leb, List, [], ◌∷◌, refl, sym, arith, inr, Option, Some}
 use Rattle.std.specs.List.{AllByRecursion, filter}
-use Rattle.std.proofs.lemmas.Bool.{eq-eqb, eqb-true}
+use Rattle.std.proofs.lemmas.Bool.{eq-eqb}
 use Rattle.std.proofs.lemmas.Bool.Decides.{nat_tests}
-use Rattle.base_types.specs.declared.names.Xid.{Xid}
-use Rattle.journal.specs.Past.{same_xid}
-use Rattle.journal.proofs.XidLemmas.{same_xid-refl, same_xid-true}
-use Rattle.board_rows.specs.Board.{Record, Does, TakesBack, Commits, RollsBack, DeedAt, thread_of, scn_of, xid_of, is_that, without, stands_after, stands, of_xid, Stage, Fresh, Active, Over, stage, begun, Rising}
-use Rattle.board_rows.specs.Events.{is_kept, AreNear, LosesNewest}
-use Rattle.board_rows.specs.Sound.{MayFollow, Follows}
-use Rattle.board_rows.proofs.Shown.{all_map, all_of, clash, that-is}
+use Rattle.board_rows.proofs.Words.{Xid, same_xid, same_xid-true, EachPair, Record, Commits, DeedAt, thread_of, scn_of, xid_of, without, stands_after, stands, of_xid, Fresh, Over, stage, Rising, is_kept, AreNear, LosesNewest, Follows}
+use Rattle.board_rows.proofs.Lists.{cases, pair_both, all_map, all_of}
 use Rattle.board_rows.proofs.RowSteps.{of_xid-without}
 use Rattle.board_rows.proofs.TxnSteps.{stops}
 use Rattle.board_rows.proofs.LateSteps.{all-used}
-
-pub eqb-sym : (a b : ℕ) → (a == b) ≡ false → (b == a) ≡ false
-eqb-sym a b e = here (b == a) refl
-  where
-    here : (t : Bool) → (b == a) ≡ t → t ≡ false
-    here false f = refl
-    here true f = clash (a == b) (eq-eqb a b (sym (eqb-true b a f))) e
-
-pub all_filter : {A : Type 0} (P : A → Type 0) (test : A → Bool) (xs : List A) → AllByRecursion P xs → AllByRecursion (λ x. (test x ≡ true) × P x) (filter test xs)
-all_filter P test [] h = tt
-all_filter P test (x ∷ xs) h = here (test x) refl (all_filter P test xs h.1)
-  where
-    here : (t : Bool) → test x ≡ t → AllByRecursion (λ x. (test x ≡ true) × P x) (filter test xs) → AllByRecursion (λ x. (test x ≡ true) × P x) (cond t (x ∷ filter test xs) (filter test xs))
-    here true e ih = ((e, h.0), ih)
-    here false e ih = ih
 
 -- nothing stands of a fresh transaction
 pub fresh-none : (x : Xid) (recs : List Record) → stage x recs ≡ Fresh → of_xid x (stands recs) ≡ []
@@ -36,52 +16,23 @@ fresh-none x recs e = go (stands recs) (all-used recs)
   where
     go : (mods : List DeedAt) → AllByRecursion (λ m. stage m.xid recs ≡ Fresh → ⊥) mods → of_xid x mods ≡ []
     go [] h = refl
-    go (m ∷ mods) h = here (same_xid x m.xid) refl (go mods h.1)
-      where
-        here : (t : Bool) → same_xid x m.xid ≡ t → of_xid x mods ≡ [] → cond t (m ∷ of_xid x mods) (of_xid x mods) ≡ []
-        here false f ih = ih
-        here true f ih = absurd (h.0 (rw (sym (same_xid-true x m.xid f)) e))
-
--- what hasn't begun is fresh
-pub unbegun-fresh : (y : Xid) (all recs : List Record) → AllByRecursion (λ r. begun (xid_of r) all ≡ true) recs → begun y all ≡ false → stage y recs ≡ Fresh
-unbegun-fresh y all [] h off = refl
-unbegun-fresh y all (r ∷ recs) h off = here r h.0 (unbegun-fresh y all recs h.1 off)
-  where
-    by_test : (w : Xid) (st : Stage) (t : Bool) → same_xid y w ≡ t → begun w all ≡ true → stage y recs ≡ Fresh → cond t st (stage y recs) ≡ Fresh
-    by_test w st false e b ih = ih
-    by_test w st true e b ih = clash (begun y all) (rw (same_xid-true y w e) b) off
-
-    here : (r : Record) → begun (xid_of r) all ≡ true → stage y recs ≡ Fresh → stage y (r ∷ recs) ≡ Fresh
-    here (Does c w seq d) b ih = by_test w Active (same_xid y w) refl b ih
-    here (TakesBack i c w seq row) b ih = ih
-    here (Commits c w) b ih = by_test w (Over (Some c)) (same_xid y w) refl b ih
-    here (RollsBack i c w) b ih = by_test w (Over None) (same_xid y w) refl b ih
+    go (m ∷ mods) h = grind (arith, cases, go mods)
 
 -- a record of another changes nothing of a transaction
 pub after-of_xid : (x : Xid) (r : Record) (mods : List DeedAt) → same_xid x (xid_of r) ≡ false → of_xid x (stands_after r mods) ≡ of_xid x mods
-after-of_xid x (Does c y seq d) mods e = rw e refl
-after-of_xid x (TakesBack j c y seq row) mods e = of_xid-without x y seq row mods e
-after-of_xid x _ mods e = refl
+after-of_xid x r mods e = grind (arith, cases, of_xid-without)
 
 pub after-stage : (x : Xid) (r : Record) (recs : List Record) → same_xid x (xid_of r) ≡ false → stage x (r ∷ recs) ≡ stage x recs
-after-stage x (TakesBack j c y seq row) recs e = refl
-after-stage x _ recs e = rw e refl
+after-stage x r recs e = grind arith
 
 -- a step back of x takes it from what stands of x
 pub of_xid-back : (x : Xid) (seq row : ℕ) (mods : List DeedAt) → of_xid x (without x seq row mods) ≡ without x seq row (of_xid x mods)
 of_xid-back x seq row [] = refl
-of_xid-back x seq row (m ∷ mods) = here (is_that x seq row m) (same_xid x m.xid) refl refl (of_xid-back x seq row mods)
-  where
-    here : (t o : Bool) → is_that x seq row m ≡ t → same_xid x m.xid ≡ o → of_xid x (without x seq row mods) ≡ without x seq row (of_xid x mods) → of_xid x (cond t mods (m ∷ without x seq row mods)) ≡ without x seq row (cond o (m ∷ of_xid x mods) (of_xid x mods))
-    here true true e f ih = rw e refl
-    here true false e f ih = clash (same_xid x m.xid) (rw (that-is x seq row m e).0 (same_xid-refl m.xid)) f
-    here false true e f ih = rw (e, f) (ap (λ ms. m ∷ ms) ih)
-    here false false e f ih = rw f ih
+of_xid-back x seq row (m ∷ mods) = grind (arith, of_xid-back x seq row mods)
 
 -- under a record that is kept, what is near it is kept
 abbrev pub KeepsUnder : ℕ → ℕ → List Record → Type 0
-KeepsUnder i kept [] = Unit {0}
-KeepsUnder i kept (r ∷ older) = (is_kept i kept r ≡ true → AllByRecursion (λ o. AreNear r o → is_kept i kept o ≡ true) older) × KeepsUnder i kept older
+KeepsUnder i kept = EachPair (λ r o. is_kept i kept r ≡ true → AreNear r o → is_kept i kept o ≡ true)
 
 module _ (i kept : ℕ) where
   abbrev pub Kept : Record → Bool
@@ -91,41 +42,26 @@ module _ (i kept : ℕ) where
   kept-other r e = rw e refl
 
   pub kept-low : (r : Record) → scn_of r ≤ kept → Kept r ≡ true
-  kept-low r le = here (thread_of r == i)
-    where
-      here : (t : Bool) → cond t (leb (scn_of r) kept) true ≡ true
-      here true = grind (arith, nat_tests, le)
-      here false = refl
+  kept-low r le = grind arith
 
   pub kept-back : (r : Record) → Kept r ≡ true → thread_of r ≡ i → scn_of r ≤ kept
   kept-back r k e = let low : leb (scn_of r) kept ≡ true = rw (eq-eqb (thread_of r) i e) at k in grind (arith, nat_tests, low)
 
   pub lost-is : (r : Record) → Kept r ≡ false → (thread_of r ≡ i) × (kept < scn_of r)
-  lost-is r h = here (thread_of r == i) refl h
-    where
-      here : (t : Bool) → (thread_of r == i) ≡ t → cond t (leb (scn_of r) kept) true ≡ false → (thread_of r ≡ i) × (kept < scn_of r)
-      here true e h = (eqb-true (thread_of r) i e, (let f : leb (scn_of r) kept ≡ false = h in grind (arith, nat_tests, f)))
-      here false e h = clash true refl h
+  lost-is r h = grind arith
 
   -- what is older in the thread of a record that is kept is kept
-  pub older-kept : (r : Record) (recs : List Record) → Kept r ≡ true → AllByRecursion (λ o. thread_of o ≡ thread_of r → scn_of o < scn_of r) recs → AllByRecursion (λ o. thread_of o ≡ thread_of r → Kept o ≡ true) recs
-  older-kept r recs k h = all_map (λ o. thread_of o ≡ thread_of r → scn_of o < scn_of r) (λ o. thread_of o ≡ thread_of r → Kept o ≡ true) recs (λ o f e. one o (f e) e (thread_of o == i) refl) h
-    where
-      one : (o : Record) → scn_of o < scn_of r → thread_of o ≡ thread_of r → (t : Bool) → (thread_of o == i) ≡ t → Kept o ≡ true
-      one o lt e false f = kept-other o f
-      one o lt e true f = let low = kept-back r k (sym e ∙ eqb-true (thread_of o) i f) in kept-low o (omega arith)
+  pub kept-older : (r o : Record) → Kept r ≡ true → scn_of o < scn_of r → thread_of r ≡ i → Kept o ≡ true
+  kept-older r o k lt e = let low = kept-back r k e in kept-low o (omega arith)
+
+  pub older-kept : (r o : Record) → Kept r ≡ true → (thread_of o ≡ thread_of r → scn_of o < scn_of r) → thread_of o ≡ thread_of r → Kept o ≡ true
+  older-kept r o k f e = grind arith
 
   pub keeps-under : (recs : List Record) → Rising recs → LosesNewest i kept recs → KeepsUnder i kept recs
-  keeps-under [] rising l = tt
-  keeps-under (r ∷ recs) rising l = ((λ k. here k (thread_of r == i) refl), keeps-under recs rising.1 l.1)
+  keeps-under recs = pair_both _ _ _ recs one
     where
-      here : Kept r ≡ true → (t : Bool) → (thread_of r == i) ≡ t → AllByRecursion (λ o. AreNear r o → Kept o ≡ true) recs
-      here k false e = l.0 (λ f. clash (thread_of r == i) (eq-eqb (thread_of r) i f) e)
-      here k true e = all_map (λ o. thread_of o ≡ thread_of r → Kept o ≡ true) (λ o. AreNear r o → Kept o ≡ true) recs (λ o f _. one o f (thread_of o == i) refl) (older-kept r recs k rising.0)
-        where
-          one : (o : Record) → (thread_of o ≡ thread_of r → Kept o ≡ true) → (t : Bool) → (thread_of o == i) ≡ t → Kept o ≡ true
-          one o f false g = kept-other o g
-          one o f true g = f (eqb-true (thread_of o) i g ∙ sym (eqb-true (thread_of r) i e))
+      one : (r o : Record) → (thread_of o ≡ thread_of r → scn_of o < scn_of r) → (thread_of r ≢ i → AreNear r o → Kept o ≡ true) → Kept r ≡ true → AreNear r o → Kept o ≡ true
+      one r o rises loses k near = grind (arith, cases)
 
   -- all records of a transaction are kept
   abbrev pub AllKept : Xid → List Record → Type 0
@@ -133,39 +69,15 @@ module _ (i kept : ℕ) where
 
   -- what vanishes is of another
   lost-other : (x : Xid) (r : Record) → (same_xid x (xid_of r) ≡ true → Kept r ≡ true) → Kept r ≡ false → (t : Bool) → same_xid x (xid_of r) ≡ t → t ≡ false
-  lost-other x r kept off false e = refl
-  lost-other x r kept off true e = clash (Kept r) (kept e) off
+  lost-other x r kept off t e = grind arith
 
   pub stage-kept : (x : Xid) (recs : List Record) → AllKept x recs → stage x (filter Kept recs) ≡ stage x recs
   stage-kept x [] h = refl
-  stage-kept x (r ∷ recs) h = here (Kept r) refl (stage-kept x recs h.1)
-    where
-      same : (r : Record) → stage x (filter Kept recs) ≡ stage x recs → stage x (r ∷ filter Kept recs) ≡ stage x (r ∷ recs)
-      same (Does c y seq d) ih = ap (λ (st : Stage). cond (same_xid x y) Active st) ih
-      same (TakesBack j c y seq row) ih = ih
-      same (Commits c y) ih = ap (λ (st : Stage). cond (same_xid x y) (Over (Some c)) st) ih
-      same (RollsBack j c y) ih = ap (λ (st : Stage). cond (same_xid x y) (Over None) st) ih
-
-      here : (t : Bool) → Kept r ≡ t → stage x (filter Kept recs) ≡ stage x recs → stage x (cond t (r ∷ filter Kept recs) (filter Kept recs)) ≡ stage x (r ∷ recs)
-      here true e ih = same r ih
-      here false e ih = ih ∙ sym (after-stage x r recs (lost-other x r h.0 e (same_xid x (xid_of r)) refl))
+  stage-kept x (r ∷ recs) h = grind (arith, stage-kept x recs h.1)
 
   pub of_xid-kept : (x : Xid) (recs : List Record) → AllKept x recs → of_xid x (stands (filter Kept recs)) ≡ of_xid x (stands recs)
   of_xid-kept x [] h = refl
-  of_xid-kept x (r ∷ recs) h = here (Kept r) refl (of_xid-kept x recs h.1)
-    where
-      same : (r : Record) (xs ys : List DeedAt) → of_xid x xs ≡ of_xid x ys → of_xid x (stands_after r xs) ≡ of_xid x (stands_after r ys)
-      same (Does c y seq d) xs ys ih = ap (λ (ms : List DeedAt). cond (same_xid x y) (record { xid = y; seq = seq; scn = c; deed = d } ∷ ms) ms) ih
-      same (TakesBack j c y seq row) xs ys ih = go (same_xid x y) refl
-        where
-          go : (t : Bool) → same_xid x y ≡ t → of_xid x (without y seq row xs) ≡ of_xid x (without y seq row ys)
-          go false e = of_xid-without x y seq row xs e ∙ (ih ∙ sym (of_xid-without x y seq row ys e))
-          go true e = let is : x ≡ y = same_xid-true x y e in rw (sym is) (of_xid-back x seq row xs ∙ (ap (without x seq row) ih ∙ sym (of_xid-back x seq row ys)))
-      same _ xs ys ih = ih
-
-      here : (t : Bool) → Kept r ≡ t → of_xid x (stands (filter Kept recs)) ≡ of_xid x (stands recs) → of_xid x (stands (cond t (r ∷ filter Kept recs) (filter Kept recs))) ≡ of_xid x (stands (r ∷ recs))
-      here true e ih = same r (stands (filter Kept recs)) (stands recs) ih
-      here false e ih = ih ∙ sym (after-of_xid x r (stands recs) (lost-other x r h.0 e (same_xid x (xid_of r)) refl))
+  of_xid-kept x (r ∷ recs) h = grind (arith, cases, of_xid-without, of_xid-back, after-of_xid, lost-other, of_xid-kept x recs h.1)
 
   -- the records of a transaction in its own thread are kept
   abbrev pub OwnKept : Xid → List Record → Type 0
@@ -174,91 +86,28 @@ module _ (i kept : ℕ) where
   pub own-other : (x : Xid) (recs : List Record) → (x.seg == i) ≡ false → OwnKept x recs
   own-other x recs off = all_of (λ r. same_xid x (xid_of r) ≡ true → thread_of r ≡ x.seg → Kept r ≡ true) recs (λ r e t. kept-other r (rw t off))
 
-  -- then it has begun as before
-  pub begun-kept : (x : Xid) (recs : List Record) → OwnKept x recs → begun x (filter Kept recs) ≡ begun x recs
-  begun-kept x [] h = refl
-  begun-kept x (r ∷ recs) h = here r (Kept r) refl h.0 (begun-kept x recs h.1)
-    where
-      here : (r : Record) (t : Bool) → Kept r ≡ t → (same_xid x (xid_of r) ≡ true → thread_of r ≡ x.seg → Kept r ≡ true) → begun x (filter Kept recs) ≡ begun x recs → begun x (cond t (r ∷ filter Kept recs) (filter Kept recs)) ≡ begun x (r ∷ recs)
-      here (Does c y seq d) true e own ih = ap (λ (b : Bool). cond (same_xid x y) true b) ih
-      here (Does c y seq d) false e own ih = ih ∙ lost (same_xid x y) refl
-        where
-          lost : (t : Bool) → same_xid x y ≡ t → begun x recs ≡ cond t true (begun x recs)
-          lost false f = refl
-          lost true f = clash (Kept (Does c y seq d)) (own f (ap (λ (w : Xid). w.seg) (sym (same_xid-true x y f)))) e
-      here _ true e own ih = ih
-      here _ false e own ih = ih
+  pub fresh-kept : (x : Xid) (recs : List Record) → Follows recs → OwnKept x recs → stage x (filter Kept recs) ≡ Fresh → stage x recs ≡ Fresh
+  fresh-kept x [] f h e = refl
+  fresh-kept x (r ∷ recs) f h e = grind (arith, fresh-kept x recs)
 
   -- an end that is there after the loss was there before
   pub over-kept : (x : Xid) (o : Option ℕ) (recs : List Record) → Follows recs → stage x (filter Kept recs) ≡ Over o → stage x recs ≡ Over o
   over-kept x o [] f e = (cc)
-  over-kept x o (r ∷ recs) f e = here (Kept r) e (over-kept x o recs f.1)
-    where
-      by_test : (y : Xid) (st old now : Stage) (t : Bool) → same_xid x y ≡ t → (now ≡ Over o → old ≡ Over o) → cond t st now ≡ Over o → cond t st old ≡ Over o
-      by_test y st old now true e ih g = g
-      by_test y st old now false e ih g = ih g
-
-      same : (r : Record) → (stage x (filter Kept recs) ≡ Over o → stage x recs ≡ Over o) → stage x (r ∷ filter Kept recs) ≡ Over o → stage x (r ∷ recs) ≡ Over o
-      same (Does c y seq d) ih e = by_test y Active (stage x recs) (stage x (filter Kept recs)) (same_xid x y) refl ih e
-      same (TakesBack j c y seq row) ih e = ih e
-      same (Commits c y) ih e = by_test y (Over (Some c)) (stage x recs) (stage x (filter Kept recs)) (same_xid x y) refl ih e
-      same (RollsBack j c y) ih e = by_test y (Over None) (stage x recs) (stage x (filter Kept recs)) (same_xid x y) refl ih e
-
-      not_of : stage x recs ≡ Over o → (t : Bool) → same_xid x (xid_of r) ≡ t → t ≡ false
-      not_of g false e = refl
-      not_of g true e = absurd (stops r (stage (xid_of r) recs) o f.0 (rw (sym (same_xid-true x (xid_of r) e)) g))
-
-      here : (t : Bool) → stage x (cond t (r ∷ filter Kept recs) (filter Kept recs)) ≡ Over o → (stage x (filter Kept recs) ≡ Over o → stage x recs ≡ Over o) → stage x (r ∷ recs) ≡ Over o
-      here true e ih = same r ih e
-      here false e ih = let g = ih e in after-stage x r recs (not_of g (same_xid x (xid_of r)) refl) ∙ g
+  over-kept x o (r ∷ recs) f e = grind (arith, cases, over-kept x o recs f.1)
 
   -- under a record that is kept all of its transaction is kept
-  near-xid : (x : Xid) (r : Record) (recs : List Record) → same_xid x (xid_of r) ≡ true → AllByRecursion (λ o. AreNear r o → Kept o ≡ true) recs → AllKept x recs
-  near-xid x r recs e h = all_map (λ o. AreNear r o → Kept o ≡ true) (λ o. same_xid x (xid_of o) ≡ true → Kept o ≡ true) recs (λ o f g. f (inr (rw (sym (same_xid-true x (xid_of r) e)) g))) h
+  near-xid : (x : Xid) (r : Record) (recs : List Record) → same_xid x (xid_of r) ≡ true → Kept r ≡ true → AllByRecursion (λ o. Kept r ≡ true → AreNear r o → Kept o ≡ true) recs → AllKept x recs
+  near-xid x r recs e k = all_map _ _ recs (λ o f g. f k (inr (rw (sym (same_xid-true x (xid_of r) e)) g)))
 
   -- all records of a transaction whose end is kept are kept
   pub ended-whole : (x : Xid) (o : Option ℕ) (recs : List Record) → KeepsUnder i kept recs → Follows recs → stage x (filter Kept recs) ≡ Over o → AllKept x recs
   ended-whole x o [] l f e = tt
-  ended-whole x o (r ∷ recs) l f e = here (Kept r) refl e (ended-whole x o recs l.1 f.1)
-    where
-      of_x : Kept r ≡ true → (t : Bool) → same_xid x (xid_of r) ≡ t → stage x (r ∷ filter Kept recs) ≡ Over o → (stage x (filter Kept recs) ≡ Over o → AllKept x recs) → (same_xid x (xid_of r) ≡ true → Kept r ≡ true) × AllKept x recs
-      of_x k true g e ih = ((λ _. k), near-xid x r recs g (l.0 k))
-      of_x k false g e ih = ((λ y. clash (same_xid x (xid_of r)) y g), ih (sym (after-stage x r (filter Kept recs) g) ∙ e))
-
-      here : (t : Bool) → Kept r ≡ t → stage x (cond t (r ∷ filter Kept recs) (filter Kept recs)) ≡ Over o → (stage x (filter Kept recs) ≡ Over o → AllKept x recs) → (same_xid x (xid_of r) ≡ true → Kept r ≡ true) × AllKept x recs
-      here true k e ih = of_x k (same_xid x (xid_of r)) refl e ih
-      here false k e ih = ((λ g. absurd (stops r (stage (xid_of r) recs) o f.0 (rw (sym (same_xid-true x (xid_of r) g)) (over-kept x o recs f.1 e)))), ih e)
+  ended-whole x o (r ∷ recs) l f e = grind (arith, cases, near-xid, after-stage, stops, over-kept, ended-whole x o recs l.1 f.1)
 
   pub commit-whole : (x : Xid) (c : ℕ) (recs : List Record) → KeepsUnder i kept recs → Follows recs → stage x recs ≡ Over (Some c) → Kept (Commits c x) ≡ true → AllKept x recs
   commit-whole x c [] l f e k = tt
-  commit-whole x c (r ∷ recs) l f e k = here r (same_xid x (xid_of r)) refl e f.0 l.0 (λ g. commit-whole x c recs l.1 f.1 g k)
-    where
-      here : (r : Record) (t : Bool) → same_xid x (xid_of r) ≡ t → stage x (r ∷ recs) ≡ Over (Some c) → MayFollow r (stage (xid_of r) recs) → (Kept r ≡ true → AllByRecursion (λ o. AreNear r o → Kept o ≡ true) recs) → (stage x recs ≡ Over (Some c) → AllKept x recs) → (same_xid x (xid_of r) ≡ true → Kept r ≡ true) × AllKept x recs
-      here r false g e goes near ih = ((λ y. clash (same_xid x (xid_of r)) y g), ih (sym (after-stage x r recs g) ∙ e))
-      here (Does d y seq deed) true g e goes near ih = absurd (let bad : Active ≡ Over (Some c) = rw g at e in cc)
-      here (TakesBack j d y seq row) true g e goes near ih = absurd (stops (TakesBack j d y seq row) (stage y recs) (Some c) goes (rw (sym (same_xid-true x y g)) e))
-      here (RollsBack j d y) true g e goes near ih = absurd (let over : ◌≡◌ {A = Stage} (Over None) (Over (Some c)) = rw g at e in let bad : ◌≡◌ {A = Option ℕ} None (Some c) = cc in cc)
-      here (Commits d y) true g e goes near ih =
-          let over : ◌≡◌ {A = Stage} (Over (Some d)) (Over (Some c)) = rw g at e in
-          let same : c ≡ d = cc in
-          let here_kept : Kept (Commits d y) ≡ true = rw (sym same, sym (same_xid-true x y g)) k in
-          ((λ _. here_kept), near-xid x (Commits d y) recs g (near here_kept))
+  commit-whole x c (r ∷ recs) l f e k = grind (arith, cases, after-stage, stops, near-xid, commit-whole x c recs)
 
   pub follows-kept : (recs : List Record) → KeepsUnder i kept recs → Follows recs → Follows (filter Kept recs)
   follows-kept [] l f = tt
-  follows-kept (r ∷ recs) l f = here (Kept r) refl (follows-kept recs l.1 f.1)
-    where
-      goes : Kept r ≡ true → MayFollow r (stage (xid_of r) (filter Kept recs))
-      goes k = rw (stage-kept (xid_of r) recs (near-xid (xid_of r) r recs (same_xid-refl (xid_of r)) (l.0 k))) f.0
-
-      here : (t : Bool) → Kept r ≡ t → Follows (filter Kept recs) → Follows (cond t (r ∷ filter Kept recs) (filter Kept recs))
-      here true k ih = (goes k, ih)
-      here false k ih = ih
-
-  pub rising-kept : (recs : List Record) → Rising recs → Rising (filter Kept recs)
-  rising-kept [] f = tt
-  rising-kept (r ∷ recs) f = here (Kept r) (rising-kept recs f.1)
-    where
-      here : (t : Bool) → Rising (filter Kept recs) → Rising (cond t (r ∷ filter Kept recs) (filter Kept recs))
-      here true ih = (all_map (λ o. (Kept o ≡ true) × (thread_of o ≡ thread_of r → scn_of o < scn_of r)) (λ o. thread_of o ≡ thread_of r → scn_of o < scn_of r) (filter Kept recs) (λ o h. h.1) (all_filter (λ o. thread_of o ≡ thread_of r → scn_of o < scn_of r) Kept recs f.0), ih)
-      here false ih = ih
+  follows-kept (r ∷ recs) l f = grind (arith, cases, stage-kept (xid_of r) recs, near-xid (xid_of r) r recs, follows-kept recs)

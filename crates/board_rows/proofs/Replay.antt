@@ -1,34 +1,17 @@
 -- Replaying what stands, and the history.
-use Rattle.std.proofs.Common.{◌≡◌, ℕ, ◌<◌, ◌≤◌, Bool, true, false, cond, ◌==◌, ◌||◌, max, List, [], ◌∷◌, ◌++◌, refl, sym, ap, ◌∙◌, arith, leb, inl, inr, ◌⊎◌}
-use Rattle.std.specs.Prelude.{Option, Some, None, IsSomeAnd, ◌&&◌}
+use Rattle.std.proofs.Common.{◌≡◌, ℕ, ◌≤◌, Bool, true, false, cond, ◌||◌, max, List, [], ◌∷◌, ◌++◌, refl, sym, ap, ◌∙◌, arith, ◌⊎◌, Option, None}
 use Rattle.std.specs.List.{AllByRecursion}
-use Rattle.std.proofs.lemmas.Bool.{eq-eqb}
-use Rattle.std.proofs.lemmas.Bool.Decides.{nat_tests}
 use Rattle.std.proofs.lemmas.List.Elements.{filter-append}
-use Rattle.base_types.specs.declared.names.Xid.{Xid}
-use Rattle.journal.specs.Past.{same_xid}
-use Rattle.journal.specs.declared.deeds.Change.{Change}
-use Rattle.journal.specs.declared.deeds.Deed.{Deed}
-use Rattle.journal.specs.declared.deeds.Deed.TheVariants.{Changes, Locks}
-use Rattle.journal.specs.Standing.{row_of, changes_of}
-use Rattle.journal.specs.declared.deeds.Commit.{Commit}
-use Rattle.journal.specs.History.{is_before, entered, value_by, changes_up_to}
-use Rattle.journal.specs.Good.{changes_in, Replays}
-use Rattle.journal.proofs.XidLemmas.{same_xid-true}
-use Rattle.board_rows.specs.Board.{DeedAt, of_xid}
-use Rattle.board_rows.specs.Rows.{IsFree, on, shown, on_row, deeds_in, seen_at, IsOver, Ordered}
-use Rattle.board_rows.proofs.Shown.{NoneOn, clash, all_map, shown-or, shown-hidden, changes_of-append, on_row-of_xid}
+use Rattle.board_rows.proofs.Words.{Xid, same_xid, Change, Deed, row_of, changes_of, Commit, entered, value_by, changes_up_to, changes_in, Replays, same_xid-true, DeedAt, of_xid, IsFree, on, shown, on_row, deeds_in, seen_at, IsOver, Ordered}
+use Rattle.board_rows.proofs.Lists.{cases, all_map}
+use Rattle.board_rows.proofs.Shown.{NoneOn, shown-or, changes_of-append, on_row-of_xid}
 use Rattle.board_rows.proofs.Table.{IsClear}
 use Rattle.board_rows.proofs.Order.{none-under, Ordered-ahead, all-seen}
 
 -- only the changes of a row count
 pub value-on_row : (k : ℕ) (changes : List Change) → value_by (on_row k changes) k ≡ value_by changes k
 value-on_row k [] = refl
-value-on_row k (change ∷ older) = here (change.row == k) refl (value-on_row k older)
-  where
-    here : (o : Bool) → (change.row == k) ≡ o → value_by (on_row k older) k ≡ value_by older k → value_by (cond o (change ∷ on_row k older) (on_row k older)) k ≡ cond o change.new (value_by older k)
-    here true e ih = rw e refl
-    here false e ih = ih
+value-on_row k (change ∷ older) = grind (arith, value-on_row k older)
 
 pub value-same : (k : ℕ) (xs ys : List Change) → on_row k xs ≡ on_row k ys → value_by xs k ≡ value_by ys k
 value-same k xs ys e = sym (value-on_row k xs) ∙ (ap (λ cs. value_by cs k) e ∙ value-on_row k ys)
@@ -52,58 +35,28 @@ Replays-split (change ∷ older) base r = let rest = Replays-split older base r.
 -- bases that agree in each row that has changes
 pub ReplaysOn-same : (changes base other : List Change) → ((k : ℕ) → (on_row k changes ≡ []) ⊎ (on_row k base ≡ on_row k other)) → ReplaysOn base changes → ReplaysOn other changes
 ReplaysOn-same [] base other e h = tt
-ReplaysOn-same (change ∷ older) base other e h =
-    (h.0 ∙ value-below change.row older base other (same (e change.row)), ReplaysOn-same older base other (λ k. tail k (change.row == k) (e k)) h.1)
-  where
-    some : (cs : List Change) → (change ∷ cs) ≡ [] → ⊥
-    some cs e = cc
-
-    same : (on_row change.row (change ∷ older) ≡ []) ⊎ (on_row change.row base ≡ on_row change.row other) → on_row change.row base ≡ on_row change.row other
-    same (inr e) = e
-    same (inl e) = absurd (some (on_row change.row older) (rw (eq-eqb change.row change.row refl) at e))
-
-    tail : (k : ℕ) (t : Bool) → (cond t (change ∷ on_row k older) (on_row k older) ≡ []) ⊎ (on_row k base ≡ on_row k other) → (on_row k older ≡ []) ⊎ (on_row k base ≡ on_row k other)
-    tail k t (inr e) = inr e
-    tail k true (inl e) = absurd (some (on_row k older) e)
-    tail k false (inl e) = inl e
+ReplaysOn-same (change ∷ older) base other e h = grind (arith, cases, value-below, ReplaysOn-same older)
 
 none_either : (k : ℕ) (xs ys : List Change) → on_row k xs ≡ [] → on_row k (xs ++ ys) ≡ on_row k ys
 none_either k xs ys e = filter-append _ xs ys ∙ ap (λ cs. cs ++ on_row k ys) e
 
 all-untouched : (k : ℕ) (a : Commit) (commits : List Commit) → on_row k a.changes ≡ [] → on_row k (changes_in (entered a commits)) ≡ on_row k (changes_in commits)
 all-untouched k a [] h = none_either k a.changes [] h
-all-untouched k a (b ∷ commits) h = here (is_before a b) (all-untouched k a commits h)
-  where
-    here : (t : Bool) → on_row k (changes_in (entered a commits)) ≡ on_row k (changes_in commits) → on_row k (changes_in (cond t (b ∷ entered a commits) (a ∷ b ∷ commits))) ≡ on_row k (changes_in (b ∷ commits))
-    here false ih = none_either k a.changes (changes_in (b ∷ commits)) h
-    here true ih = filter-append _ b.changes (changes_in (entered a commits)) ∙ (ap (λ cs. on_row k b.changes ++ cs) ih ∙ sym (filter-append _ b.changes (changes_in commits)))
+all-untouched k a (b ∷ commits) h = grind (arith, cases, none_either, filter-append, all-untouched k a commits h)
 
 pub Replays-entered : (a : Commit) (commits : List Commit) → AllByRecursion (IsClear a) commits → ReplaysOn (changes_in commits) a.changes → Replays (changes_in commits) → Replays (changes_in (entered a commits))
 Replays-entered a [] clear on r = Replays-join a.changes [] on r
-Replays-entered a (b ∷ commits) clear on r = here (is_before a b) refl (Replays-split b.changes (changes_in commits) r) (Replays-entered a commits clear.1)
-  where
-    apart : is_before a b ≡ true → (k : ℕ) → (on_row k a.changes ≡ []) ⊎ (on_row k b.changes ≡ [])
-    apart e k = elim (clear.0 k) [ inl f ↦ clash (is_before a b) e f | inr n ↦ n ]
-
-    here : (t : Bool) → is_before a b ≡ t → ReplaysOn (changes_in commits) b.changes × Replays (changes_in commits) → (ReplaysOn (changes_in commits) a.changes → Replays (changes_in commits) → Replays (changes_in (entered a commits))) → Replays (changes_in (cond t (b ∷ entered a commits) (a ∷ b ∷ commits)))
-    here false e s ih = Replays-join a.changes (changes_in (b ∷ commits)) on r
-    here true e s ih =
-        Replays-join b.changes (changes_in (entered a commits))
-        (ReplaysOn-same b.changes (changes_in commits) (changes_in (entered a commits)) (λ k. elim (apart e k) [ inl n ↦ inr (sym (all-untouched k a commits n)) | inr n ↦ inl n ]) s.0)
-        (ih (ReplaysOn-same a.changes (b.changes ++ changes_in commits) (changes_in commits) (λ k. elim (apart e k) [ inl n ↦ inl n | inr n ↦ inr (none_either k b.changes (changes_in commits) n) ]) on) s.1)
+Replays-entered a (b ∷ commits) clear on r = grind (arith, cases, Replays-join, Replays-split, ReplaysOn-same, all-untouched, none_either, Replays-entered a commits clear.1)
 
 pub Replays-tail : (d : Deed) (deeds : List Deed) → Replays (changes_of (d ∷ deeds)) → Replays (changes_of deeds)
-Replays-tail (Changes change) deeds r = r.1
-Replays-tail (Locks row) deeds r = r
+Replays-tail d deeds r = grind arith
 
 -- the first deed, over other deeds with the same value in its row
 pub Replays-head : (d : Deed) (xs ys : List Deed) → Replays (changes_of (d ∷ xs)) → on_row (row_of d) (changes_of xs) ≡ on_row (row_of d) (changes_of ys) → Replays (changes_of ys) → Replays (changes_of (d ∷ ys))
-Replays-head (Changes change) xs ys r e h = (r.0 ∙ value-same change.row (changes_of xs) (changes_of ys) e, h)
-Replays-head (Locks row) xs ys r e h = h
+Replays-head d xs ys r e h = grind (arith, cases, value-same)
 
 replays_on-head : (d : Deed) (all mine : List Deed) (base : List Change) → on_row (row_of d) (changes_of all) ≡ on_row (row_of d) (changes_of mine ++ base) → Replays (changes_of (d ∷ all)) → ReplaysOn base (changes_of mine) → ReplaysOn base (changes_of (d ∷ mine))
-replays_on-head (Changes change) all mine base e r ih = (r.0 ∙ value-same change.row (changes_of all) (changes_of mine ++ base) e, ih)
-replays_on-head (Locks row) all mine base e r ih = ih
+replays_on-head d all mine base e r ih = grind (arith, cases, value-same)
 
 -- what stands of a transaction that isn't committed, with the commits below it
 pub own-first : (k s : ℕ) (x : Xid) (committed : Xid → Option ℕ) (mods : List DeedAt) → committed x ≡ None → Ordered committed mods
@@ -114,39 +67,22 @@ own-first k s x committed mods new order =
     ∙ ap (λ cs. cs ++ changes_of (shown k (seen_at s committed) mods)) (sym (on_row-of_xid k x mods)))
 
 free-under : (s : ℕ) (committed : Xid → Option ℕ) (m : DeedAt) (os : List DeedAt) → m.scn ≤ s → AllByRecursion (IsOver committed m) os → AllByRecursion (IsFree committed s m.xid (row_of m.deed)) os
-free-under s committed m os le h = all_map (IsOver committed m) (IsFree committed s m.xid (row_of m.deed)) os (λ o over a. one o (same_xid m.xid o.xid) refl (over a)) h
+free-under s committed m os le = all_map _ _ os one
   where
-    low : (e : Option ℕ) → IsSomeAnd e (λ c. c < m.scn) → IsSomeAnd e (λ c. c ≤ s)
-    low None l = l
-    low (Some c) l = omega (arith, l, le)
-
-    one : (o : DeedAt) (t : Bool) → same_xid m.xid o.xid ≡ t → (same_xid m.xid o.xid ≡ false → IsSomeAnd (committed o.xid) (λ c. c < m.scn)) → (o.xid ≡ m.xid) ⊎ IsSomeAnd (committed o.xid) (λ c. c ≤ s)
-    one o true e f = inl (sym (same_xid-true m.xid o.xid e))
-    one o false e f = inr (low (committed o.xid) (f e))
+    one : (o : DeedAt) → IsOver committed m o → IsFree committed s m.xid (row_of m.deed) o
+    one o over a = grind (arith, cases)
 
 -- what stands of a transaction replays on the table
 pub replays-on : (s : ℕ) (x : Xid) (committed : Xid → Option ℕ) (base : List Change) (mods : List DeedAt) → committed x ≡ None → AllByRecursion (λ m. m.scn ≤ s) mods → Ordered committed mods
     → ((k : ℕ) → NoneOn k (same_xid x) mods ⊎ (on_row k base ≡ changes_of (shown k (seen_at s committed) mods))) → Replays (changes_of (deeds_in mods)) → ReplaysOn base (changes_of (deeds_in (of_xid x mods)))
 replays-on s x committed base [] new low h based r = tt
-replays-on s x committed base (m ∷ mods) new low h based r =
-    here (same_xid x m.xid) refl (replays-on s x committed base mods new low.1 h.1 (λ k. below k (based k)) (Replays-tail m.deed (deeds_in mods) r))
+replays-on s x committed base (m ∷ mods) new low h based r = by (same_xid x m.xid) refl (replays-on s x committed base mods new low.1 h.1 (λ k. below k (based k)) (Replays-tail m.deed (deeds_in mods) r))
   where
-    other : seen_at s committed m.xid ≡ true → (t : Bool) → same_xid m.xid x ≡ t → t ≡ false
-    other p false e = refl
-    other p true e = clash (seen_at s committed m.xid) p (rw (same_xid-true m.xid x e, new) refl)
-
-    split : (k : ℕ) (o t : Bool) → on k m ≡ o → seen_at s committed m.xid ≡ t → on_row k base ≡ changes_of (cond (o && t) (m.deed ∷ shown k (seen_at s committed) mods) (shown k (seen_at s committed) mods)) → NoneOn k (same_xid x) mods ⊎ (on_row k base ≡ changes_of (shown k (seen_at s committed) mods))
-    split k true true a t e = inl (none-under k x committed m mods new (other t (same_xid m.xid x) refl) a h.0)
-    split k true false a t e = inr e
-    split k false t a f e = inr e
-
     below : (k : ℕ) → NoneOn k (same_xid x) (m ∷ mods) ⊎ (on_row k base ≡ changes_of (shown k (seen_at s committed) (m ∷ mods))) → NoneOn k (same_xid x) mods ⊎ (on_row k base ≡ changes_of (shown k (seen_at s committed) mods))
-    below k (inl n) = inl n.1
-    below k (inr e) = split k (on k m) (seen_at s committed m.xid) refl refl e
+    below k either = grind (arith, cases, none-under k x committed m mods new)
 
     table : same_xid x m.xid ≡ true → NoneOn (row_of m.deed) (same_xid x) (m ∷ mods) ⊎ (on_row (row_of m.deed) base ≡ changes_of (shown (row_of m.deed) (seen_at s committed) (m ∷ mods))) → on_row (row_of m.deed) base ≡ changes_of (shown (row_of m.deed) (seen_at s committed) mods)
-    table f (inl n) = clash (same_xid x m.xid) f (n.0 (eq-eqb (row_of m.deed) (row_of m.deed) refl))
-    table f (inr e) = e ∙ ap changes_of (shown-hidden (row_of m.deed) (seen_at s committed) m mods (λ a. rw (sym (same_xid-true x m.xid f), new) refl))
+    table f either = grind (arith, cases)
 
     rows : same_xid x m.xid ≡ true → on_row (row_of m.deed) (changes_of (deeds_in mods)) ≡ on_row (row_of m.deed) (changes_of (deeds_in (of_xid x mods)) ++ base)
     rows f =
@@ -157,9 +93,9 @@ replays-on s x committed base (m ∷ mods) new low h based r =
         ∙ (ap (λ cs. on_row k (changes_of (deeds_in (of_xid x mods))) ++ cs) (sym (table f (based k)))
         ∙ sym (filter-append _ (changes_of (deeds_in (of_xid x mods))) base)))
 
-    here : (t : Bool) → same_xid x m.xid ≡ t → ReplaysOn base (changes_of (deeds_in (of_xid x mods))) → ReplaysOn base (changes_of (deeds_in (cond t (m ∷ of_xid x mods) (of_xid x mods))))
-    here true f ih = replays_on-head m.deed (deeds_in mods) (deeds_in (of_xid x mods)) base (rows f) r ih
-    here false f ih = ih
+    by : (t : Bool) → same_xid x m.xid ≡ t → ReplaysOn base (changes_of (deeds_in (of_xid x mods))) → ReplaysOn base (changes_of (deeds_in (cond t (m ∷ of_xid x mods) (of_xid x mods))))
+    by true f ih = replays_on-head m.deed (deeds_in mods) (deeds_in (of_xid x mods)) base (rows f) r ih
+    by false f ih = ih
 
 -- a bound of what stands and of the history
 pub bound : {A : Type 0} (f : A → ℕ) (xs : List A) → (s : ℕ) × ((t : ℕ) → s ≤ t → AllByRecursion (λ x. f x ≤ t) xs)
@@ -168,8 +104,4 @@ bound f (x ∷ xs) = let rest = bound f xs in (max (f x) rest.0, λ t le. (omega
 
 pub changes_up_to-all : (s : ℕ) (commits : List Commit) → AllByRecursion (λ a. a.commit_scn ≤ s) commits → changes_up_to s commits ≡ changes_in commits
 changes_up_to-all s [] h = refl
-changes_up_to-all s (a ∷ commits) h = here (leb a.commit_scn s) (grind (arith, nat_tests, h.0)) (changes_up_to-all s commits h.1)
-  where
-    here : (t : Bool) → t ≡ true → changes_up_to s commits ≡ changes_in commits → cond t (a.changes ++ changes_up_to s commits) (changes_up_to s commits) ≡ a.changes ++ changes_in commits
-    here true e ih = ap (λ cs. a.changes ++ cs) ih
-    here false e ih = clash false e refl
+changes_up_to-all s (a ∷ commits) h = grind (arith, changes_up_to-all s commits h.1)

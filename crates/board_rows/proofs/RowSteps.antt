@@ -1,24 +1,11 @@
 -- The clauses on rows are kept by a change, by a step back, by an end and by a commit that becomes durable.
-use Rattle.std.proofs.Common.{◌≡◌, ℕ, ◌<◌, Bool, true, false, cond, ◌==◌, max, List, [], ◌∷◌, refl, sym, ap, ◌∙◌, arith, inl, inr, ◌⊎◌}
-use Rattle.std.specs.Prelude.{Option, Some, None}
+use Rattle.std.proofs.Common.{◌≡◌, ℕ, ◌<◌, true, false, ◌==◌, max, List, [], ◌∷◌, refl, sym, ap, ◌∙◌, arith, inr, ◌⊎◌, Option, None}
 use Rattle.std.specs.List.{AllByRecursion}
-use Rattle.std.proofs.lemmas.Bool.{eq-eqb}
-use Rattle.base_types.specs.declared.names.Xid.{Xid}
-use Rattle.journal.specs.Past.{same_xid}
-use Rattle.journal.specs.declared.deeds.Deed.{Deed}
-use Rattle.journal.specs.declared.deeds.Deed.TheVariants.{Changes, Locks}
-use Rattle.journal.specs.Standing.{row_of, changes_of}
-use Rattle.journal.specs.declared.deeds.Commit.{Commit}
-use Rattle.journal.specs.History.{is_before, entered}
-use Rattle.journal.specs.Good.{changes_in, Replays}
-use Rattle.journal.proofs.XidLemmas.{same_xid-refl, same_xid-true}
-use Rattle.board_rows.specs.Board.{Record, Does, TakesBack, DeedAt, without, is_that, of_xid, stands}
-use Rattle.board_rows.specs.Rows.{IsFree, on, shown, on_row, deeds_in, seen_at, IsOver, Ordered, IsMade}
-use Rattle.board_rows.specs.Events.{Finds}
-use Rattle.board_rows.specs.Sound.{RowsStand}
-use Rattle.board_rows.proofs.Shown.{clash, all_map, shown-hidden, shown-without, that-is, on_row-all, on_row-of_xid}
+use Rattle.board_rows.proofs.Words.{Xid, same_xid, Deed, row_of, changes_of, Commit, entered, changes_in, Replays, same_xid-refl, Record, Does, TakesBack, DeedAt, without, is_that, of_xid, stands, IsFree, on_row, deeds_in, seen_at, IsOver, Ordered, IsMade, Finds, RowsStand}
+use Rattle.board_rows.proofs.Lists.{cases, cases, all_map, suffix_here, suffix_map}
+use Rattle.board_rows.proofs.Shown.{shown-hidden, shown-without, on_row-all, on_row-of_xid}
 use Rattle.board_rows.proofs.Table.{IsClear, OneMore, TableStands-committed}
-use Rattle.board_rows.proofs.Order.{suffix_here, suffix_map, Ordered-changes, Ordered-committed, Ordered-back, Ordered-ahead, clear-of, no-commit, same_xid-sym}
+use Rattle.board_rows.proofs.Order.{Ordered-changes, Ordered-committed, pair_without, Ordered-ahead, clear-of}
 use Rattle.board_rows.proofs.Replay.{ReplaysOn, Replays-entered, Replays-head, Replays-tail, replays-on, bound, changes_up_to-all}
 
 -- one more change of a transaction: another has as many
@@ -27,11 +14,7 @@ of_xid-other y m mods e = rw e refl
 
 pub of_xid-without : (y x : Xid) (seq row : ℕ) (mods : List DeedAt) → same_xid y x ≡ false → of_xid y (without x seq row mods) ≡ of_xid y mods
 of_xid-without y x seq row [] e = refl
-of_xid-without y x seq row (m ∷ mods) e = here (is_that x seq row m) refl (of_xid-without y x seq row mods e)
-  where
-    here : (t : Bool) → is_that x seq row m ≡ t → of_xid y (without x seq row mods) ≡ of_xid y mods → of_xid y (cond t mods (m ∷ without x seq row mods)) ≡ cond (same_xid y m.xid) (m ∷ of_xid y mods) (of_xid y mods)
-    here true f ih = let off : same_xid y m.xid ≡ false = rw (sym (that-is x seq row m f).0) e in rw off refl
-    here false f ih = ap (λ ms. cond (same_xid y m.xid) (m ∷ ms) ms) ih
+of_xid-without y x seq row (m ∷ mods) e = grind (arith, of_xid-without y x seq row mods e)
 
 -- the newest of a transaction is the one that is taken back
 abbrev pub IsNewest : Xid → ℕ → ℕ → List DeedAt → Type 0
@@ -39,71 +22,44 @@ IsNewest x seq row [] = ⊥
 IsNewest x seq row (m ∷ mods) = (is_that x seq row m ≡ true) ⊎ ((same_xid x m.xid ≡ false) × IsNewest x seq row mods)
 
 pub newest-first : (x : Xid) (seq row : ℕ) (mods : List DeedAt) (m : DeedAt) (rest : List DeedAt) → of_xid x mods ≡ m ∷ rest → seq ≡ m.seq → row ≡ row_of m.deed → IsNewest x seq row mods × (of_xid x (without x seq row mods) ≡ rest)
-newest-first x seq row [] m rest e f g = absurd (none e)
-  where
-    none : ◌≡◌ {A = List DeedAt} [] (m ∷ rest) → ⊥
-    none e = (cc)
-newest-first x seq row (o ∷ mods) m rest e f g = here (same_xid x o.xid) refl e (newest-first x seq row mods m rest)
-  where
-    here : (t : Bool) → same_xid x o.xid ≡ t → cond t (o ∷ of_xid x mods) (of_xid x mods) ≡ m ∷ rest → (of_xid x mods ≡ m ∷ rest → seq ≡ m.seq → row ≡ row_of m.deed → IsNewest x seq row mods × (of_xid x (without x seq row mods) ≡ rest))
-        → ((is_that x seq row o ≡ true) ⊎ ((same_xid x o.xid ≡ false) × IsNewest x seq row mods)) × (of_xid x (cond (is_that x seq row o) mods (o ∷ without x seq row mods)) ≡ rest)
-    here true a h ih =
-        let same : o ≡ m = cc in
-        let others : of_xid x mods ≡ rest = cc in
-        let that : is_that x seq row o ≡ true = rw (a, same, f, g, eq-eqb m.seq m.seq refl, eq-eqb (row_of m.deed) (row_of m.deed) refl) refl in
-        (inl that, rw that others)
-    here false a h ih =
-        let rest_is = ih h f g in
-        let off : is_that x seq row o ≡ false = rw a refl in
-        (inr (a, rest_is.0), rw off (rw a rest_is.1))
+newest-first x seq row [] m rest e f g = grind arith
+newest-first x seq row (o ∷ mods) m rest e f g = grind (arith, newest-first x seq row mods m rest)
 
 -- nothing stands over it on its row
 under-other : (x : Xid) (seq row : ℕ) (committed : Xid → Option ℕ) (m : DeedAt) (os : List DeedAt) → committed x ≡ None → same_xid x m.xid ≡ false → AllByRecursion (IsOver committed m) os → IsNewest x seq row os → (row == row_of m.deed) ≡ false
 under-other x seq row committed m [] new a h f = absurd f
-under-other x seq row committed m (o ∷ os) new a h (inr f) = under-other x seq row committed m os new a h.1 f.1
-under-other x seq row committed m (o ∷ os) new a h (inl t) = here (row == row_of m.deed) refl
-  where
-    here : (b : Bool) → (row == row_of m.deed) ≡ b → b ≡ false
-    here false e = refl
-    here true e =
-        let is = that-is x seq row o t in
-        let same : on (row_of m.deed) o ≡ true = rw (sym is.1) e in
-        let other : same_xid m.xid o.xid ≡ false = rw (sym is.0, same_xid-sym m.xid x) a in
-        absurd (no-commit (committed o.xid) (λ c. c < m.scn) (rw (sym is.0) new) (h.0 same other))
+under-other x seq row committed m (o ∷ os) new a h either = grind (arith, cases, under-other x seq row committed m os new a h.1)
 
 value-without : (k : ℕ) (x : Xid) (seq row : ℕ) (mods : List DeedAt) → (row == k) ≡ false → on_row k (changes_of (deeds_in mods)) ≡ on_row k (changes_of (deeds_in (without x seq row mods)))
-value-without k x seq row mods e =
-    on_row-all k mods ∙ (ap changes_of (sym (shown-without k (λ y. true) x seq row mods (λ a. clash (row == k) a e))) ∙ sym (on_row-all k (without x seq row mods)))
+value-without k x seq row mods e = grind (arith, cases, on_row-all, shown-without)
 
 pub Replays-without : (x : Xid) (seq row : ℕ) (committed : Xid → Option ℕ) (mods : List DeedAt) → committed x ≡ None → Ordered committed mods → IsNewest x seq row mods → Replays (changes_of (deeds_in mods)) → Replays (changes_of (deeds_in (without x seq row mods)))
 Replays-without x seq row committed [] new h f r = tt
-Replays-without x seq row committed (m ∷ mods) new h (inl t) r = rw t (Replays-tail m.deed (deeds_in mods) r)
-Replays-without x seq row committed (m ∷ mods) new h (inr f) r = here (is_that x seq row m) (Replays-without x seq row committed mods new h.1 f.1 (Replays-tail m.deed (deeds_in mods) r))
-  where
-    here : (t : Bool) → Replays (changes_of (deeds_in (without x seq row mods))) → Replays (changes_of (deeds_in (cond t mods (m ∷ without x seq row mods))))
-    here true rest = Replays-tail m.deed (deeds_in mods) r
-    here false rest =
-        Replays-head m.deed (deeds_in mods) (deeds_in (without x seq row mods)) r
-        (value-without (row_of m.deed) x seq row mods (under-other x seq row committed m mods new f.0 h.0 f.1)) rest
+Replays-without x seq row committed (m ∷ mods) new h either r = grind (arith, cases, Replays-tail, Replays-head, value-without, under-other, Replays-without x seq row committed mods new h.1)
 
 -- a commit of the history is another's than x, which isn't committed
 made-other : (committed : Xid → Option ℕ) (mods other : List DeedAt) (x : Xid) → committed x ≡ None → ((y : Xid) → same_xid y x ≡ false → of_xid y mods ≡ of_xid y other) → (a : Commit) → IsMade committed mods a → IsMade committed other a
-made-other committed mods other x new same a made =
-    (made.0, made.1 ∙ ap (λ (ms : List DeedAt). changes_of (deeds_in ms)) (same a.xid (differ (same_xid a.xid x) refl)))
-  where
-    differ : (t : Bool) → same_xid a.xid x ≡ t → t ≡ false
-    differ false e = refl
-    differ true e = absurd (let none : None ≡ Some a.commit_scn = sym new ∙ (ap committed (sym (same_xid-true a.xid x e)) ∙ made.0) in cc)
+made-other committed mods other x new same a made = grind arith
+
+all_entered : (P : Commit → Type 0) (a : Commit) (older : List Commit) → P a → AllByRecursion P older → AllByRecursion P (entered a older)
+all_entered P a [] p h = (p, tt)
+all_entered P a (b ∷ older) p h = grind (arith, all_entered P a older p h.1)
 
 module _ {recs : List Record} {committed : Xid → Option ℕ} {commits : List Commit} (rows : RowsStand recs committed commits) where
+  order : Ordered committed (stands recs)
+  order = suffix_here (λ older. Ordered committed (stands older)) recs rows.order
+
+  replayed : Replays (changes_of (deeds_in (stands recs)))
+  replayed = suffix_here (λ older. Replays (changes_of (deeds_in (stands older)))) recs rows.deeds_replay
+
   pub rows-changes : (s c : ℕ) (x : Xid) (seq : ℕ) (deed : Deed) → s < c → committed x ≡ None
       → AllByRecursion (IsFree committed s x (row_of deed)) (stands recs)
       → Finds deed (stands recs) → RowsStand (Does c x seq deed ∷ recs) committed commits
   rows-changes s c x seq deed lt new free found = record {
-    order = (Ordered-changes committed m (stands recs) s lt free (suffix_here (λ older. Ordered committed (stands older)) recs rows.order), rows.order);
+    order = (Ordered-changes committed m (stands recs) s lt free order, rows.order);
     deeds_replay = (replays deed found, rows.deeds_replay);
     table = λ t k. rows.table t k ∙ ap changes_of (sym (shown-hidden k (seen_at t committed) m (stands recs) (λ _. rw new refl)));
-    made = all_map (IsMade committed (stands recs)) (IsMade committed (m ∷ stands recs)) commits (made-other committed (stands recs) (m ∷ stands recs) x new (λ y e. sym (of_xid-other y m (stands recs) e))) rows.made;
+    made = all_map _ _ commits (made-other committed (stands recs) (m ∷ stands recs) x new (λ y e. sym (of_xid-other y m (stands recs) e))) rows.made;
     replay = rows.replay;
   }
     where
@@ -111,71 +67,42 @@ module _ {recs : List Record} {committed : Xid → Option ℕ} {commits : List C
       m = record { xid = x; seq = seq; scn = c; deed = deed }
 
       replays : (d : Deed) → Finds d (stands recs) → Replays (changes_of (d ∷ deeds_in (stands recs)))
-      replays (Changes change) f = (f, suffix_here (λ older. Replays (changes_of (deeds_in (stands older)))) recs rows.deeds_replay)
-      replays (Locks row) f = suffix_here (λ older. Replays (changes_of (deeds_in (stands older)))) recs rows.deeds_replay
+      replays d f = grind (arith, replayed)
 
   pub rows-back : (i c : ℕ) (x : Xid) (seq row : ℕ) → committed x ≡ None → IsNewest x seq row (stands recs) → RowsStand (TakesBack i c x seq row ∷ recs) committed commits
   rows-back i c x seq row new newest = record {
-    order = (Ordered-back committed x seq row (stands recs) order, rows.order);
-    deeds_replay = (Replays-without x seq row committed (stands recs) new order newest (suffix_here (λ older. Replays (changes_of (deeds_in (stands older)))) recs rows.deeds_replay), rows.deeds_replay);
+    order = (pair_without _ x seq row (stands recs) order, rows.order);
+    deeds_replay = (Replays-without x seq row committed (stands recs) new order newest replayed, rows.deeds_replay);
     table = λ t k. rows.table t k ∙ ap changes_of (sym (shown-without k (seen_at t committed) x seq row (stands recs) (λ _. rw new refl)));
-    made = all_map (IsMade committed (stands recs)) (IsMade committed (without x seq row (stands recs))) commits (made-other committed (stands recs) (without x seq row (stands recs)) x new (λ y e. sym (of_xid-without y x seq row (stands recs) e))) rows.made;
+    made = all_map _ _ commits (made-other committed (stands recs) (without x seq row (stands recs)) x new (λ y e. sym (of_xid-without y x seq row (stands recs) e))) rows.made;
     replay = rows.replay;
   }
-    where
-      order : Ordered committed (stands recs)
-      order = suffix_here (λ older. Ordered committed (stands older)) recs rows.order
 
   -- an end changes no row
   pub rows-ends : (r : Record) → stands (r ∷ recs) ≡ stands recs → RowsStand (r ∷ recs) committed commits
-  rows-ends r same = record {
-    order = (rw same (suffix_here (λ older. Ordered committed (stands older)) recs rows.order), rows.order);
-    deeds_replay = (rw same (suffix_here (λ older. Replays (changes_of (deeds_in (stands older)))) recs rows.deeds_replay), rows.deeds_replay);
-    table = λ t k. rw same (rows.table t k);
-    made = rw same rows.made;
-    replay = rows.replay;
-  }
+  rows-ends r same = grind (arith, cases, suffix_here)
 
   pub rows-clear : (x : Xid) (a : Commit) → committed x ≡ None → a.changes ≡ changes_of (deeds_in (of_xid x (stands recs)))
       → AllByRecursion (λ m. same_xid x m.xid ≡ true → m.scn < a.commit_scn) (stands recs) → AllByRecursion (IsClear a) commits
-  rows-clear x a new marked below =
-      all_map (IsMade committed (stands recs)) (IsClear a) commits (λ b made. clear-of x a committed (stands recs) b new (λ k. ap (on_row k) marked ∙ on_row-of_xid k x (stands recs)) (suffix_here (λ older. Ordered committed (stands older)) recs rows.order) below made) rows.made
+  rows-clear x a new marked below = all_map _ _ commits (λ b. clear-of x a committed (stands recs) b new (λ k. ap (on_row k) marked ∙ on_row-of_xid k x (stands recs)) order below) rows.made
 
   pub rows-settles : (x : Xid) (a : Commit) (now : Xid → Option ℕ) → a.xid ≡ x → OneMore x a.commit_scn committed now
       → a.changes ≡ changes_of (deeds_in (of_xid x (stands recs)))
       → AllByRecursion (λ m. same_xid x m.xid ≡ true → m.scn < a.commit_scn) (stands recs)
       → RowsStand recs now (entered a commits)
   rows-settles x a now is more marked below = record {
-    order = suffix_map (λ older. Ordered committed (stands older)) (λ older. Ordered now (stands older)) recs (λ older. Ordered-committed x a.commit_scn committed now (stands older) more) rows.order;
+    order = suffix_map _ _ recs (λ older. Ordered-committed x a.commit_scn committed now (stands older) more) rows.order;
     deeds_replay = rows.deeds_replay;
-    table = TableStands-committed x a committed now commits (stands recs) more same clear (λ k s. Ordered-ahead k s x committed (stands recs) more.new order) rows.table;
-    made = all_entered (IsMade now (stands recs)) a commits here (all_map (IsMade committed (stands recs)) (IsMade now (stands recs)) commits (λ b made. (more.is b.xid ∙ keeps b made (same_xid x b.xid) refl, made.1)) rows.made);
+    table = TableStands-committed x a committed now commits (stands recs) more (λ k. ap (on_row k) marked ∙ on_row-of_xid k x (stands recs)) clear (λ k s. Ordered-ahead k s x committed (stands recs) more.new order) rows.table;
+    made = all_entered (IsMade now (stands recs)) a commits (rw is (more.is x ∙ rw (same_xid-refl x) refl), rw is marked) (all_map _ _ commits keeps rows.made);
     replay = Replays-entered a commits clear (rw marked on) rows.replay;
   }
     where
-      order : Ordered committed (stands recs)
-      order = suffix_here (λ older. Ordered committed (stands older)) recs rows.order
-
-      same : (k : ℕ) → on_row k a.changes ≡ changes_of (shown k (same_xid x) (stands recs))
-      same k = ap (on_row k) marked ∙ on_row-of_xid k x (stands recs)
-
       clear : AllByRecursion (IsClear a) commits
       clear = rows-clear x a more.new marked below
 
-      keeps : (b : Commit) → IsMade committed (stands recs) b → (t : Bool) → same_xid x b.xid ≡ t → cond t (Some a.commit_scn) (committed b.xid) ≡ Some b.commit_scn
-      keeps b made false e = made.0
-      keeps b made true e = absurd (let none : None ≡ Some b.commit_scn = sym more.new ∙ (ap committed (same_xid-true x b.xid e) ∙ made.0) in cc)
-
-      here : IsMade now (stands recs) a
-      here = (rw is (more.is x ∙ rw (same_xid-refl x) refl), rw is marked)
-
-      all_entered : (P : Commit → Type 0) (a : Commit) (older : List Commit) → P a → AllByRecursion P older → AllByRecursion P (entered a older)
-      all_entered P a [] p h = (p, tt)
-      all_entered P a (b ∷ older) p h = go (is_before a b) (all_entered P a older p h.1)
-        where
-          go : (t : Bool) → AllByRecursion P (entered a older) → AllByRecursion P (cond t (b ∷ entered a older) (a ∷ b ∷ older))
-          go true ih = (h.0, ih)
-          go false ih = (p, h)
+      keeps : (b : Commit) → IsMade committed (stands recs) b → IsMade now (stands recs) b
+      keeps b made = grind (arith, cases, more.is b.xid, more.new)
 
       on : ReplaysOn (changes_in commits) (changes_of (deeds_in (of_xid x (stands recs))))
       on =
@@ -183,4 +110,4 @@ module _ {recs : List Record} {committed : Xid → Option ℕ} {commits : List C
           let up = bound (λ (b : Commit). b.commit_scn) commits in
           let s = max low.0 up.0 in
           let all = changes_up_to-all s commits (up.1 s (omega arith)) in
-          replays-on s x committed (changes_in commits) (stands recs) more.new (low.1 s (omega arith)) order (λ k. inr (sym (ap (on_row k) all) ∙ rows.table s k)) (suffix_here (λ older. Replays (changes_of (deeds_in (stands older)))) recs rows.deeds_replay)
+          replays-on s x committed (changes_in commits) (stands recs) more.new (low.1 s (omega arith)) order (λ k. inr (sym (ap (on_row k) all) ∙ rows.table s k)) replayed

@@ -1,40 +1,17 @@
 -- Every run of events keeps the board sound, so its journal is good.
-use Rattle.std.proofs.Common.{◌≡◌, ℕ, List, [], ◌∷◌, ◌++◌, refl, sym, subst, arith}
-use Rattle.std.specs.Prelude.{Option}
-use Rattle.std.proofs.lemmas.Bool.{false≢true}
-use Rattle.journal.specs.History.{history}
-use Rattle.journal.specs.Good.{Range, GoodRows, GoodJournal}
-use Rattle.journal.specs.Sees.{sees}
+use Rattle.std.proofs.Common.{◌≡◌, ℕ, List, [], ◌∷◌, ◌++◌, refl, sym, subst, arith, Option}
+use Rattle.board_rows.proofs.Words.{Xid, Deed, recorded_in, history, Range, GoodRows, GoodJournal, Board, Event, May, after, nothing, Leads, logged, Sound}
 use Rattle.board_rows.specs.Events
-use Rattle.board_rows.specs.Events.{Board, Event, May, after, nothing, Leads}
-use Rattle.board_rows.specs.Rows.{logged}
-use Rattle.board_rows.specs.Sound.{Sound}
-use Rattle.board_rows.proofs.AnswerSteps.{unread-seen}
+use Rattle.board_rows.specs.Numbers.{since_loss}
 use Rattle.board_rows.proofs.Keeps.{keeps-opens, keeps-starts, keeps-learns, keeps-raises, keeps-changes, keeps-takes_back, keeps-marks, keeps-rolls, keeps-settles, keeps-reads, keeps-answers, keeps-acks, keeps-notes, keeps-joins, keeps-ups}
 use Rattle.board_rows.proofs.KeepsLoses.{keeps-loses}
 
 module _ (asked : ℕ → Option Range) (insts : ℕ) where
+  first-newest : (inst : ℕ) → (rest : List (Xid × Deed)) × (recorded_in inst [] ≡ since_loss inst [] ++ rest)
+  first-newest inst = ([], refl)
+
   pub first-sound : Sound asked insts nothing
-  first-sound = record {
-    clocks = record { knows = λ i. omega arith; lasts = λ i. omega arith; drawn = tt; rising = tt };
-    txns = record {
-      each = λ x. record { active = λ e. absurd (false≢true e); stands = λ g. refl; marks = λ c e. (cc); commits = refl; rolled = λ e. refl };
-      each_record = tt;
-      follows = tt;
-      apart = λ c i lt. refl;
-    };
-    sessions = record { used = λ z x e. (cc); single = λ y z x e f. (cc); at_home = λ z x e. (cc) };
-    segments = record { lives = λ x e. absurd (false≢true e); active = λ x e. (cc); safe = tt; under = tt };
-    rows = record { order = tt; deeds_replay = tt; table = λ s k. refl; made = tt; replay = tt };
-    owns = λ z x e o. (cc);
-    log_history = refl;
-    numbers = record { numbered = tt; newest = λ i. ([], refl); within = λ i. tt; wraps = λ seg slot w low up. absurd (omega arith); ended = λ x e. absurd (false≢true e) };
-    late = tt;
-    starts = record { acks = λ j low up. omega arith; starts = λ z i at stays is. omega arith; unopened = λ z e. refl; homes = λ z i e. (cc) };
-    reads_at = λ z. refl;
-    answers = record { rows = tt; found = tt; read = tt; scans = λ z. unread-seen (λ k. 0) [] 0 0 (λ s. sees [] [] (record { session = z; snapshot = s })) };
-    proper = record { commits = tt; acknowledgements = tt; starts = tt; row_locks = tt };
-  }
+  first-sound = grind (arith, first-newest)
 
   pub keeps : (b : Board) (e : Event) → May asked insts b e → Sound asked insts b → Sound asked insts (after b e)
   keeps b (Events.opens z i) may sound = keeps-opens asked insts b sound z i may

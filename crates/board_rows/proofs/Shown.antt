@@ -1,19 +1,9 @@
 -- The deeds on a row that are seen.
-use Rattle.std.proofs.Common.{◌≡◌, ℕ, Bool, true, false, cond, ◌&&◌, ◌||◌, ◌==◌, List, [], ◌∷◌, ◌++◌, refl, sym, ap, ◌∙◌}
+use Rattle.board_rows.proofs.Lists.{cases}
+use Rattle.std.proofs.Common.{◌≡◌, ℕ, Bool, true, false, ◌||◌, ◌==◌, List, [], ◌∷◌, ◌++◌, refl, ap, ◌∙◌, arith}
 use Rattle.std.specs.List.{AllByRecursion}
-use Rattle.std.proofs.lemmas.Bool.{eqb-true, false≢true}
-use Rattle.base_types.specs.declared.names.Xid.{Xid}
-use Rattle.journal.specs.Past.{same_xid}
-use Rattle.journal.specs.declared.deeds.Deed.{Deed}
-use Rattle.journal.specs.declared.deeds.Deed.TheVariants.{Changes, Locks}
-use Rattle.journal.specs.Standing.{row_of, changes_of}
-use Rattle.journal.proofs.XidLemmas.{both_true, same_xid-true}
-use Rattle.board_rows.specs.Board.{DeedAt, Record, Does, TakesBack, Commits, RollsBack, stands, without, xid_of, is_that, touches, of_xid}
-use Rattle.board_rows.specs.Rows.{on, shown, on_row, deeds_in}
-
--- what can't be true and false
-pub clash : {A : Type 0} (b : Bool) → b ≡ true → b ≡ false → A
-clash b t f = absurd (false≢true (sym f ∙ t))
+use Rattle.board_rows.proofs.Words.{Xid, same_xid, Deed, changes_of, DeedAt, Record, stands, without, xid_of, touches, of_xid, on, shown, on_row, deeds_in}
+use Rattle.board_rows.proofs.Lists.{cases, all_of}
 
 -- none of these is on the row
 abbrev pub NoneOn : ℕ → (Xid → Bool) → List DeedAt → Type 0
@@ -24,129 +14,55 @@ abbrev pub Ahead : ℕ → (Xid → Bool) → (Xid → Bool) → List DeedAt →
 Ahead k q p [] = Unit {0}
 Ahead k q p (m ∷ mods) = (on k m ≡ true → p m.xid ≡ true → NoneOn k q mods) × Ahead k q p mods
 
-pub all_map : {X : Type 0} (P Q : X → Type 0) (xs : List X) → ((x : X) → P x → Q x) → AllByRecursion P xs → AllByRecursion Q xs
-all_map P Q [] f h = tt
-all_map P Q (x ∷ xs) f h = (f x h.0, all_map P Q xs f h.1)
-
-pub all_both : {X : Type 0} (P Q R : X → Type 0) (xs : List X) → ((x : X) → P x → Q x → R x) → AllByRecursion P xs → AllByRecursion Q xs → AllByRecursion R xs
-all_both P Q R [] f h i = tt
-all_both P Q R (x ∷ xs) f h i = (f x h.0 i.0, all_both P Q R xs f h.1 i.1)
-
-pub all_append : {X : Type 0} (P : X → Type 0) (xs ys : List X) → AllByRecursion P (xs ++ ys) → AllByRecursion P xs × AllByRecursion P ys
-all_append P [] ys h = (tt, h)
-all_append P (x ∷ xs) ys h = let rest = all_append P xs ys h.1 in ((h.0, rest.0), rest.1)
-
 pub shown-none : (k : ℕ) (q p : Xid → Bool) (mods : List DeedAt) → NoneOn k q mods → shown k (λ y. q y || p y) mods ≡ shown k p mods
 shown-none k q p [] h = refl
-shown-none k q p (m ∷ mods) h = here (on k m) (q m.xid) (p m.xid) h.0 (shown-none k q p mods h.1)
-  where
-    here : (o a b : Bool) → (o ≡ true → a ≡ false) → shown k (λ y. q y || p y) mods ≡ shown k p mods → cond (o && (a || b)) (m.deed ∷ shown k (λ y. q y || p y) mods) (shown k (λ y. q y || p y) mods) ≡ cond (o && b) (m.deed ∷ shown k p mods) (shown k p mods)
-    here true true b n ih = clash true refl (n refl)
-    here true false true n ih = ap (λ ds. m.deed ∷ ds) ih
-    here true false false n ih = ih
-    here false a b n ih = ih
+shown-none k q p (m ∷ mods) h = grind (arith, shown-none k q p mods h.1)
 
 pub none-shown : (k : ℕ) (q : Xid → Bool) (mods : List DeedAt) → NoneOn k q mods → shown k q mods ≡ []
 none-shown k q [] h = refl
-none-shown k q (m ∷ mods) h = here (on k m) (q m.xid) h.0 (none-shown k q mods h.1)
-  where
-    here : (o a : Bool) → (o ≡ true → a ≡ false) → shown k q mods ≡ [] → cond (o && a) (m.deed ∷ shown k q mods) (shown k q mods) ≡ []
-    here true true n ih = clash true refl (n refl)
-    here true false n ih = ih
-    here false a n ih = ih
+none-shown k q (m ∷ mods) h = grind (arith, none-shown k q mods h.1)
 
 -- what is ahead comes first
 pub shown-or : (k : ℕ) (q p : Xid → Bool) (mods : List DeedAt) → ((y : Xid) → q y ≡ true → p y ≡ false) → Ahead k q p mods → shown k (λ y. q y || p y) mods ≡ shown k q mods ++ shown k p mods
 shown-or k q p [] apart h = refl
-shown-or k q p (m ∷ mods) apart h = here (on k m) (q m.xid) (p m.xid) (apart m.xid) h.0 (shown-or k q p mods apart h.1)
-  where
-    here : (o a b : Bool) → (a ≡ true → b ≡ false) → (o ≡ true → b ≡ true → NoneOn k q mods) → shown k (λ y. q y || p y) mods ≡ shown k q mods ++ shown k p mods → cond (o && (a || b)) (m.deed ∷ shown k (λ y. q y || p y) mods) (shown k (λ y. q y || p y) mods) ≡ cond (o && a) (m.deed ∷ shown k q mods) (shown k q mods) ++ cond (o && b) (m.deed ∷ shown k p mods) (shown k p mods)
-    here true true true n a ih = clash true refl (n refl)
-    here true true false n a ih = ap (λ ds. m.deed ∷ ds) ih
-    here true false true n a ih = rw (none-shown k q mods (a refl refl)) (ap (λ ds. m.deed ∷ ds) (shown-none k q p mods (a refl refl)))
-    here true false false n a ih = ih
-    here false a b n f ih = ih
+shown-or k q p (m ∷ mods) apart h = grind (arith, cases, none-shown, shown-none, shown-or k q p mods apart h.1)
 
 -- tests that agree on what is on the row
 pub shown-alike : (k : ℕ) (p q : Xid → Bool) (mods : List DeedAt) → AllByRecursion (λ m. on k m ≡ true → p m.xid ≡ q m.xid) mods → shown k p mods ≡ shown k q mods
 shown-alike k p q [] h = refl
-shown-alike k p q (m ∷ mods) h = here (on k m) (p m.xid) (q m.xid) h.0 (shown-alike k p q mods h.1)
-  where
-    here : (o a b : Bool) → (o ≡ true → a ≡ b) → shown k p mods ≡ shown k q mods → cond (o && a) (m.deed ∷ shown k p mods) (shown k p mods) ≡ cond (o && b) (m.deed ∷ shown k q mods) (shown k q mods)
-    here false a b e ih = ih
-    here true a b e ih = rw (e refl, ih) refl
-
-pub all_of : {X : Type 0} (P : X → Type 0) (xs : List X) → ((x : X) → P x) → AllByRecursion P xs
-all_of P [] f = tt
-all_of P (x ∷ xs) f = (f x, all_of P xs f)
+shown-alike k p q (m ∷ mods) h = grind (arith, shown-alike k p q mods h.1)
 
 pub shown-same : (k : ℕ) (p q : Xid → Bool) (mods : List DeedAt) → ((y : Xid) → p y ≡ q y) → shown k p mods ≡ shown k q mods
 shown-same k p q mods h = shown-alike k p q mods (all_of (λ m. on k m ≡ true → p m.xid ≡ q m.xid) mods (λ m _. h m.xid))
 
 -- one more that isn't seen
 pub shown-hidden : (k : ℕ) (p : Xid → Bool) (m : DeedAt) (mods : List DeedAt) → (on k m ≡ true → p m.xid ≡ false) → shown k p (m ∷ mods) ≡ shown k p mods
-shown-hidden k p m mods h = here (on k m) (p m.xid) h
-  where
-    here : (o a : Bool) → (o ≡ true → a ≡ false) → cond (o && a) (m.deed ∷ shown k p mods) (shown k p mods) ≡ shown k p mods
-    here true true n = clash true refl (n refl)
-    here true false n = refl
-    here false a n = refl
-
--- what a step back names
-pub that-is : (x : Xid) (seq row : ℕ) (m : DeedAt) → is_that x seq row m ≡ true → (x ≡ m.xid) × (row ≡ row_of m.deed)
-that-is x seq row m h =
-    let one = both_true (same_xid x m.xid) (seq == m.seq && row == row_of m.deed) h in
-    let two = both_true (seq == m.seq) (row == row_of m.deed) one.1 in
-    (same_xid-true x m.xid one.0, eqb-true row (row_of m.deed) two.1)
+shown-hidden k p m mods h = grind arith
 
 -- taking back what isn't seen, or is on another row
 pub shown-without : (k : ℕ) (p : Xid → Bool) (x : Xid) (seq row : ℕ) (mods : List DeedAt) → ((row == k) ≡ true → p x ≡ false) → shown k p (without x seq row mods) ≡ shown k p mods
 shown-without k p x seq row [] h = refl
-shown-without k p x seq row (m ∷ mods) h = here (is_that x seq row m) refl (shown-without k p x seq row mods h)
-  where
-    here : (t : Bool) → is_that x seq row m ≡ t → shown k p (without x seq row mods) ≡ shown k p mods → shown k p (cond t mods (m ∷ without x seq row mods)) ≡ shown k p (m ∷ mods)
-    here true e ih =
-        let is = that-is x seq row m e in
-        sym (shown-hidden k p m mods (λ o. rw (sym is.0) (h (rw is.1 o))))
-    here false e ih = ap (λ ds. cond (on k m && p m.xid) (m.deed ∷ ds) ds) ih
+shown-without k p x seq row (m ∷ mods) h = grind (arith, shown-without k p x seq row mods h)
 
 -- a later record of a transaction that isn't seen changes nothing of what is seen
 pub shown-later : (k : ℕ) (p : Xid → Bool) (newer there : List Record) → AllByRecursion (λ r. touches k r ≡ true → p (xid_of r) ≡ false) newer → shown k p (stands (newer ++ there)) ≡ shown k p (stands there)
 shown-later k p [] there h = refl
-shown-later k p (Does c x seq d ∷ newer) there h =
-    shown-hidden k p (record { xid = x; seq = seq; scn = c; deed = d }) (stands (newer ++ there)) h.0 ∙ shown-later k p newer there h.1
-shown-later k p (TakesBack i c x seq row ∷ newer) there h =
-    shown-without k p x seq row (stands (newer ++ there)) h.0 ∙ shown-later k p newer there h.1
-shown-later k p (Commits c x ∷ newer) there h = shown-later k p newer there h.1
-shown-later k p (RollsBack i c x ∷ newer) there h = shown-later k p newer there h.1
+shown-later k p (r ∷ newer) there h = grind (arith, cases, shown-hidden, stands, shown-without, shown-later k p newer)
 
 -- the changes among deeds
 pub changes_of-append : (xs ys : List Deed) → changes_of (xs ++ ys) ≡ changes_of xs ++ changes_of ys
 changes_of-append [] ys = refl
-changes_of-append (Changes change ∷ xs) ys = ap (λ cs. change ∷ cs) (changes_of-append xs ys)
-changes_of-append (Locks row ∷ xs) ys = changes_of-append xs ys
+changes_of-append (d ∷ xs) ys = grind (arith, changes_of-append xs ys)
 
 -- the changes on a row are those of the deeds on it
 pub on_row-all : (k : ℕ) (mods : List DeedAt) → on_row k (changes_of (deeds_in mods)) ≡ changes_of (shown k (λ y. true) mods)
 on_row-all k [] = refl
-on_row-all k (m ∷ mods) = here m.deed (row_of m.deed == k) refl (on_row-all k mods)
-  where
-    here : (d : Deed) (o : Bool) → (row_of d == k) ≡ o → on_row k (changes_of (deeds_in mods)) ≡ changes_of (shown k (λ y. true) mods) → on_row k (changes_of (d ∷ deeds_in mods)) ≡ changes_of (cond (o && true) (d ∷ shown k (λ y. true) mods) (shown k (λ y. true) mods))
-    here (Changes change) true e ih = rw e (ap (λ cs. change ∷ cs) ih)
-    here (Changes change) false e ih = rw e ih
-    here (Locks row) true e ih = ih
-    here (Locks row) false e ih = ih
+on_row-all k (m ∷ mods) = grind (arith, on_row-all k mods)
 
 -- what stands of x on a row
 pub shown-of_xid : (k : ℕ) (x : Xid) (mods : List DeedAt) → shown k (λ y. true) (of_xid x mods) ≡ shown k (same_xid x) mods
 shown-of_xid k x [] = refl
-shown-of_xid k x (m ∷ mods) = here (on k m) (same_xid x m.xid) refl (shown-of_xid k x mods)
-  where
-    here : (o t : Bool) → on k m ≡ o → shown k (λ y. true) (of_xid x mods) ≡ shown k (same_xid x) mods → shown k (λ y. true) (cond t (m ∷ of_xid x mods) (of_xid x mods)) ≡ cond (o && t) (m.deed ∷ shown k (same_xid x) mods) (shown k (same_xid x) mods)
-    here true true e ih = rw e (ap (λ ds. m.deed ∷ ds) ih)
-    here true false e ih = ih
-    here false true e ih = rw e ih
-    here false false e ih = ih
+shown-of_xid k x (m ∷ mods) = grind (arith, shown-of_xid k x mods)
 
 pub on_row-of_xid : (k : ℕ) (x : Xid) (mods : List DeedAt) → on_row k (changes_of (deeds_in (of_xid x mods))) ≡ changes_of (shown k (same_xid x) mods)
 on_row-of_xid k x mods = on_row-all k (of_xid x mods) ∙ ap changes_of (shown-of_xid k x mods)
@@ -154,10 +70,4 @@ on_row-of_xid k x mods = on_row-all k (of_xid x mods) ∙ ap changes_of (shown-o
 -- what is shown on a row is on it
 pub on_row-shown : (k : ℕ) (test : Xid → Bool) (mods : List DeedAt) → on_row k (changes_of (shown k test mods)) ≡ changes_of (shown k test mods)
 on_row-shown k test [] = refl
-on_row-shown k test (m ∷ mods) = here m.deed (row_of m.deed == k) refl (test m.xid) (on_row-shown k test mods)
-  where
-    here : (d : Deed) (o : Bool) → (row_of d == k) ≡ o → (t : Bool) → on_row k (changes_of (shown k test mods)) ≡ changes_of (shown k test mods) → on_row k (changes_of (cond (o && t) (d ∷ shown k test mods) (shown k test mods))) ≡ changes_of (cond (o && t) (d ∷ shown k test mods) (shown k test mods))
-    here d false e t ih = ih
-    here d true e false ih = ih
-    here (Changes change) true e true ih = rw e (ap (λ cs. change ∷ cs) ih)
-    here (Locks row) true e true ih = ih
+on_row-shown k test (m ∷ mods) = grind (arith, on_row-shown k test mods)

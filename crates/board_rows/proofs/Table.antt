@@ -1,18 +1,10 @@
 -- One more commit in the history, and the table.
-use Rattle.std.proofs.Common.{◌≡◌, ℕ, Bool, true, false, cond, ◌||◌, List, [], ◌∷◌, ◌++◌, refl, sym, ap, ◌∙◌, leb, inl, inr, ◌⊎◌}
-use Rattle.std.specs.Prelude.{Option, Some, None}
+use Rattle.std.proofs.Common.{◌≡◌, ℕ, Bool, true, false, cond, ◌||◌, List, [], ◌∷◌, ◌++◌, refl, sym, ap, ◌∙◌, leb, inl, inr, ◌⊎◌, arith, Option, Some, None}
 use Rattle.std.specs.List.{AllByRecursion}
 use Rattle.std.proofs.lemmas.List.Elements.{filter-append}
-use Rattle.base_types.specs.declared.names.Xid.{Xid}
-use Rattle.journal.specs.Past.{same_xid}
-use Rattle.journal.specs.declared.deeds.Change.{Change}
-use Rattle.journal.specs.Standing.{changes_of}
-use Rattle.journal.specs.declared.deeds.Commit.{Commit}
-use Rattle.journal.specs.History.{is_before, entered, changes_up_to}
-use Rattle.journal.proofs.XidLemmas.{same_xid-true}
-use Rattle.board_rows.specs.Board.{DeedAt}
-use Rattle.board_rows.specs.Rows.{shown, on_row, is_up_to, seen_at, TableStands}
-use Rattle.board_rows.proofs.Shown.{Ahead, clash, shown-or, shown-same, changes_of-append}
+use Rattle.board_rows.proofs.Words.{Xid, same_xid, Change, changes_of, Commit, is_before, entered, changes_up_to, same_xid-true, DeedAt, shown, on_row, is_up_to, seen_at, TableStands}
+use Rattle.board_rows.proofs.Lists.{cases, clash}
+use Rattle.board_rows.proofs.Shown.{Ahead, shown-or, shown-same, changes_of-append}
 
 -- two commits are in order, or have no row in common
 abbrev pub IsClear : Commit → Commit → Type 0
@@ -23,18 +15,10 @@ abbrev at_s : ℕ → Commit → List Change
 at_s s a = cond (leb a.commit_scn s) a.changes []
 
 row-cons : (k s : ℕ) (a : Commit) (commits : List Commit) → on_row k (changes_up_to s (a ∷ commits)) ≡ on_row k (at_s s a) ++ on_row k (changes_up_to s commits)
-row-cons k s a commits = here (leb a.commit_scn s)
-  where
-    here : (t : Bool) → on_row k (cond t (a.changes ++ changes_up_to s commits) (changes_up_to s commits)) ≡ on_row k (cond t a.changes []) ++ on_row k (changes_up_to s commits)
-    here true = filter-append _ a.changes (changes_up_to s commits)
-    here false = refl
+row-cons k s a commits = grind (arith, cases, filter-append)
 
 row-none : (k s : ℕ) (b : Commit) → on_row k b.changes ≡ [] → on_row k (at_s s b) ≡ []
-row-none k s b h = here (leb b.commit_scn s)
-  where
-    here : (t : Bool) → on_row k (cond t b.changes []) ≡ []
-    here true = h
-    here false = refl
+row-none k s b h = grind arith
 
 -- in each row one more commit comes first
 pub row-entered : (k s : ℕ) (a : Commit) (commits : List Commit) → AllByRecursion (IsClear a) commits → on_row k (changes_up_to s (entered a commits)) ≡ on_row k (at_s s a) ++ on_row k (changes_up_to s commits)

@@ -1,10 +1,7 @@
 -- The board: the redo records of all instances in the order made, the newest first, told without bytes.
-use Rattle.std.specs.Prelude.{ℕ, ◌<◌, ◌≤◌, ◌≡◌, ◌⊎◌, Bool, true, false, if◌then◌else◌, ◌==◌, ◌&&◌, nat_le, List, [], ◌∷◌, Option, Some, None}
+use Rattle.std.specs.Prelude.{ℕ, ◌<◌, ◌≤◌, ◌≡◌, ◌⊎◌, Bool, false, if◌then◌else◌, ◌==◌, ◌&&◌, nat_le, List, [], ◌∷◌, Option, Some, None}
 use Rattle.std.specs.List.{filter, AllByRecursion}
-use Rattle.base_types.specs.declared.names.Xid.{Xid}
-use Rattle.journal.specs.Past.{same_xid}
-use Rattle.journal.specs.declared.deeds.Deed.{Deed}
-use Rattle.journal.specs.Standing.{row_of}
+use Rattle.board_rows.specs.Words.{Xid, Deed, same_xid, row_of}
 
 -- A record with its SCN and its transaction. A change or a lock has its number in the segment; a step back says
 -- which one it takes back. Changes, locks and commits are in the thread of their segment, the others in thread inst.
@@ -77,29 +74,27 @@ pub data Stage : Type 0 where
   Active : Stage
   Over : (commit : Option ℕ) → Stage
 
-abbrev pub stage_after : Xid → Record → Stage → Stage
-stage_after xid (Does scn other seq deed) before = if same_xid xid other then Active else before
-stage_after xid (Commits scn other) before = if same_xid xid other then Over (Some scn) else before
-stage_after xid (RollsBack inst scn other) before = if same_xid xid other then Over None else before
-stage_after xid _ before = before
-
+-- which of these it is
 abbrev pub stage : Xid → List Record → Stage
 stage xid [] = Fresh
-stage xid (r ∷ older) = stage_after xid r (stage xid older)
-
--- whether a transaction has changed or locked a row
-abbrev pub begun_after : Xid → Record → Bool → Bool
-begun_after xid (Does scn other seq deed) before = if same_xid xid other then true else before
-begun_after xid _ before = before
-
-abbrev pub begun : Xid → List Record → Bool
-begun xid [] = false
-begun xid (r ∷ older) = begun_after xid r (begun xid older)
+stage xid (Does scn other seq deed ∷ older) = if same_xid xid other then Active else stage xid older
+stage xid (Commits scn other ∷ older) = if same_xid xid other then Over (Some scn) else stage xid older
+stage xid (RollsBack inst scn other ∷ older) = if same_xid xid other then Over None else stage xid older
+stage xid (_ ∷ older) = stage xid older
 
 -- the SCN of a commit that has entered, where the records of its thread have up to an SCN
 abbrev pub durable_commit : ℕ → Stage → Option ℕ
 durable_commit upto (Over (Some scn)) = if nat_le scn upto then Some scn else None
 durable_commit upto _ = None
+
+-- a fact of each element of a list and of those under it
+abbrev pub EachOver : {A : Type 0} → (A → List A → Type 0) → List A → Type 0
+EachOver P [] = Unit {0}
+EachOver P (x ∷ under) = P x under × EachOver P under
+
+-- a fact of each element of a list and each one under it
+abbrev pub EachPair : {A : Type 0} → (A → A → Type 0) → List A → Type 0
+EachPair R = EachOver (λ x. AllByRecursion (R x))
 
 -- a fact of the board and of each earlier one
 abbrev pub EachSuffix : (List Record → Type 0) → List Record → Type 0
@@ -108,9 +103,13 @@ EachSuffix P (r ∷ older) = P (r ∷ older) × EachSuffix P older
 
 -- the SCNs of a thread's records rise
 abbrev pub Rising : List Record → Type 0
-Rising [] = Unit {0}
-Rising (r ∷ older) = AllByRecursion (λ o. thread_of o ≡ thread_of r → scn_of o < scn_of r) older × Rising older
+Rising = EachPair (λ r o. thread_of o ≡ thread_of r → scn_of o < scn_of r)
 
 -- a record in the thread of its transaction's segment, or one that has entered
 abbrev pub IsSafe : (ℕ → ℕ) → Record → Type 0
 IsSafe durable r = (thread_of r ≡ (xid_of r).seg) ⊎ (scn_of r ≤ durable (thread_of r))
+
+-- a fact of a record that is for the segment of a change or lock, in whichever thread
+abbrev pub ForSegment : (Record → Type 0) → Record → Record → Type 0
+ForSegment P (Does scn xid seq deed) o = (xid_of o).seg ≡ xid.seg → P o
+ForSegment P _ o = Unit {0}

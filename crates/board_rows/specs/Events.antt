@@ -1,19 +1,8 @@
 -- The board machine: its states, its events, what each of them needs and what it does.
 use Rattle.std.specs.Prelude.{ℕ, suc, ◌+◌, ◌≡◌, ◌≢◌, ◌<◌, ◌≤◌, ◌⊎◌, ◌==◌, ◌||◌, Bool, true, false, if◌then◌else◌, max, nat_le, List, [], ◌∷◌, ◌++◌, length, Option, Some, None}
 use Rattle.std.specs.List.{AllByRecursion, filter}
-use Rattle.base_types.specs.declared.names.Xid.{Xid}
-use Rattle.base_types.specs.declared.value.Value.{Value}
-use Rattle.journal.specs.declared.entry.Entry.{Entry}
-use Rattle.journal.specs.declared.entry.Entry.TheVariants.{Opened, Started, Rows, Changed, Locked, Marked, Committed, Acked, Undone, Rolled, Plain, Refused, Crashed, Ended, Recovered, Up, Moved, Checkpointed, NotDone}
-use Rattle.journal.specs.Past.{Past, same_xid, start_of, home_of, is_up}
-use Rattle.journal.specs.declared.deeds.Deed.{Deed}
-use Rattle.journal.specs.declared.deeds.Deed.TheVariants.{Changes, Locks}
-use Rattle.journal.specs.Standing.{row_of, changes_of, is_open}
-use Rattle.journal.specs.History.{value_by}
-use Rattle.journal.specs.Sees.{last_of, own, is_home}
-use Rattle.journal.specs.Stood.{stood, is_mark_by, came_up, acked_up_to, started_up_to}
-use Rattle.journal.specs.Good.{Range, listed_before}
-use Rattle.board_rows.specs.Board.{Record, Does, TakesBack, Commits, RollsBack, DeedAt, thread_of, scn_of, xid_of, touches, stands, of_xid, Stage, Fresh, Active, Over, stage, IsSafe}
+use Rattle.board_rows.specs.Words.{Xid, Value, Entry, Opened, Started, Rows, Changed, Locked, Marked, Committed, Acked, Undone, Rolled, Plain, Refused, Crashed, Ended, Recovered, Up, Moved, Checkpointed, NotDone, Past, same_xid, start_of, home_of, is_up, Deed, Changes, Locks, row_of, changes_of, is_open, value_by, last_of, own, is_home, stood, is_mark_by, came_up, acked_up_to, started_up_to, Range, listed_before}
+use Rattle.board_rows.specs.Board.{Record, Does, TakesBack, Commits, RollsBack, DeedAt, thread_of, scn_of, xid_of, touches, stands, of_xid, Stage, Fresh, Active, Over, stage, EachPair, IsSafe, ForSegment}
 use Rattle.board_rows.specs.Numbers.{recorded_in, wrap_in}
 use Rattle.board_rows.specs.Rows.{on, NewestIsFree, deeds_in, shown, committed_at, seen_at}
 
@@ -53,8 +42,7 @@ IsLate snapshot live _ clock = live ≡ true → snapshot ≤ clock
 
 -- that, on a board, of a transaction
 abbrev pub IsLateHere : Board → ℕ → Xid → Type 0
-IsLateHere board snapshot xid =
-    committed_at xid board.past ≡ None
+IsLateHere board snapshot xid = committed_at xid board.past ≡ None
     → IsLate snapshot (is_open xid board.past) (stage xid board.records) (board.clock xid.seg)
 
 -- how an instance is lost: it crashes, as a line asks, or a fault or a bad block ends it
@@ -69,68 +57,46 @@ entry_of_loss inst (Fault bad) = Ended inst bad
 
 -- What may happen. Sessions, instances and rows go by their numbers, statements and control lines by their lines.
 pub data Event : Type 0 where
-  -- a session is opened on an instance
-  opens : (session inst : ℕ) → Event
+  opens : (session inst : ℕ) → Event  -- a session is opened on an instance
   -- a statement starts, or starts again, at an SCN or above; `first` is the first row that it asks for
   starts : (stmt session inst least first : ℕ) → Event
-  -- an instance knows of commits up to an SCN
-  learns : (inst least : ℕ) → Event
-  -- the clock of an instance is at an SCN or above
-  raises : (inst scn : ℕ) → Event
+  learns : (inst least : ℕ) → Event  -- an instance knows of commits up to an SCN
+  raises : (inst scn : ℕ) → Event  -- the clock of an instance is at an SCN or above
   -- a statement changes or locks a row; `seq` is the number of the deed in its segment
   changes : (stmt session snapshot : ℕ) (xid : Xid) (seq : ℕ) (deed : Deed) → Event
   -- an instance takes back the newest deed of a transaction that stands, and so many are left
   takes_back : (inst : ℕ) (xid : Xid) (seq row left : ℕ) → Event
-  -- a statement makes the commit record of its transaction
-  marks : (stmt : ℕ) (xid : Xid) → Event
-  -- an instance makes the record that a transaction is rolled back
-  rolls : (inst : ℕ) (xid : Xid) → Event
+  marks : (stmt : ℕ) (xid : Xid) → Event  -- a statement makes the commit record of its transaction
+  rolls : (inst : ℕ) (xid : Xid) → Event  -- an instance makes the record that a transaction is rolled back
   -- a record becomes durable: the one between the newer records and those that were there before it
   settles : (newer : List Record) (r : Record) (there : List Record) → Event
-  -- a session reads a row in an image that is the content after the records `there`; `status` is what headers told of
-  -- who has committed up to its snapshot
+  -- a session reads a row in an image after the records `there`; `status` is who, by headers, has committed up to its snapshot
   reads : (session inst row : ℕ) (newer there : List Record) (status : Xid → Bool) → Event
-  -- the rows that a session has read are the answer of its statement
-  answers : (stmt session : ℕ) → Event
-  -- a statement is answered that its transaction has committed
-  acks : (stmt scn : ℕ) (xid : Xid) → Event
-  -- an entry of which no clause on rows speaks
-  notes : (entry : Entry) → Event
-  -- an instance is lost, and of its thread the records up to an SCN are kept
-  loses : (inst kept : ℕ) (loss : Loss) → Event
-  -- an instance that is down gets new clocks
-  joins : (inst scn known : ℕ) → Event
-  -- an instance is up, as a line asked
-  ups : (line inst : ℕ) → Event
+  answers : (stmt session : ℕ) → Event  -- the rows that a session has read are the answer of its statement
+  acks : (stmt scn : ℕ) (xid : Xid) → Event  -- a statement is answered that its transaction has committed
+  notes : (entry : Entry) → Event  -- an entry of which no clause on rows speaks
+  loses : (inst kept : ℕ) (loss : Loss) → Event  -- an instance is lost, and of its thread the records up to an SCN are kept
+  joins : (inst scn known : ℕ) → Event  -- an instance that is down gets new clocks
+  ups : (line inst : ℕ) → Event  -- an instance is up, as a line asked
 
 -- A session is opened once, on an instance that there is.
 pub record MayOpen (insts : ℕ) (board : Board) (session inst : ℕ) : Type 0 where
-  -- it wasn't opened before
-  pub new : home_of session board.past ≡ None
-  -- instances are numbered from 0
-  pub within : inst < insts
+  pub new : home_of session board.past ≡ None  -- it wasn't opened before
+  pub within : inst < insts  -- instances are numbered from 0
 
 -- A statement starts, or starts again.
 pub record MayStart (board : Board) (session inst least : ℕ) : Type 0 where
-  -- its session is on this instance
-  pub home : home_of session board.past ≡ Some inst
-  -- which is up
-  pub up : is_up inst board.past ≡ true
-  -- and hasn't come up since the session was opened
-  pub stays : came_up session board.past ≡ false
-  -- the SCN asked for is one that the clock has reached
-  pub low : least ≤ board.clock inst
+  pub home : home_of session board.past ≡ Some inst  -- its session is on this instance
+  pub up : is_up inst board.past ≡ true  -- which is up
+  pub stays : came_up session board.past ≡ false  -- and hasn't come up since the session was opened
+  pub low : least ≤ board.clock inst  -- the SCN asked for is one that the clock has reached
 
 -- A row is looked at for a session on an instance, at a snapshot. The image is the content of its block after the
 -- records `there`, and `status` is what headers told of who has committed up to the snapshot.
-pub record MayLook (board : Board) (session inst snapshot row : ℕ) (newer there : List Record)
-    (status : Xid → Bool) : Type 0 where
-  -- the session is on this instance
-  pub home : home_of session board.past ≡ Some inst
-  -- the snapshot is one that its clock has reached
-  pub low : snapshot ≤ board.clock inst
-  -- the image is of some moment up to now
-  pub image : board.records ≡ newer ++ there
+pub record MayLook (board : Board) (session inst snapshot row : ℕ) (newer there : List Record) (status : Xid → Bool) : Type 0 where
+  pub home : home_of session board.past ≡ Some inst  -- the session is on this instance
+  pub low : snapshot ≤ board.clock inst  -- the snapshot is one that its clock has reached
+  pub image : board.records ≡ newer ++ there  -- the image is of some moment up to now
   -- what came to the row since is above the snapshot, and isn't the session's own
   pub later : AllByRecursion (λ r. touches row r ≡ true →
       (snapshot < scn_of r) × (is_own (own session board.past) (xid_of r) ≡ false)) newer
@@ -145,12 +111,9 @@ value_there board session row there status =
     value_by (changes_of (shown row (λ xid. is_own (own session board.past) xid || status xid) (stands there))) row
 
 -- A session reads the next row of its statement.
-pub record MayRead (board : Board) (session inst row : ℕ) (newer there : List Record)
-    (status : Xid → Bool) : Type 0 where
-  -- the look is right at its snapshot
-  pub look : MayLook board session inst (board.scan session).snapshot row newer there status
-  -- rows are read in order
-  pub next : row ≡ (board.scan session).first + (board.scan session).count
+pub record MayRead (board : Board) (session inst row : ℕ) (newer there : List Record) (status : Xid → Bool) : Type 0 where
+  pub look : MayLook board session inst (board.scan session).snapshot row newer there status  -- the look is right at its snapshot
+  pub next : row ≡ (board.scan session).first + (board.scan session).count  -- rows are read in order
 
 -- a change found what stands in the row
 abbrev pub Finds : Deed → List DeedAt → Type 0
@@ -161,25 +124,18 @@ Finds (Locks row) deeds = Unit {0}
 pub record MayChange (board : Board) (stmt session snapshot : ℕ) (xid : Xid) (number : ℕ) (deed : Deed) : Type 0 where
   -- it started for this session at this snapshot
   pub started : start_of stmt board.past ≡ Some (record { session = session; snapshot = snapshot })
-  -- the session is on the instance of the transaction's segment
-  pub home : home_of session board.past ≡ Some xid.seg
-  -- which is up
-  pub up : is_up xid.seg board.past ≡ true
-  -- the snapshot is one that its clock has reached
-  pub low : snapshot ≤ board.clock xid.seg
+  pub home : home_of session board.past ≡ Some xid.seg  -- the session is on the instance of the transaction's segment
+  pub up : is_up xid.seg board.past ≡ true  -- which is up
+  pub low : snapshot ≤ board.clock xid.seg  -- the snapshot is one that its clock has reached
   -- the transaction is the session's own; or it has none, and this one is new: the next of its slot
   pub mine : (own session board.past ≡ Some xid) ⊎ ((own session board.past ≡ None)
       × (stage xid board.records ≡ Fresh) × (xid.wrap ≡ suc (wrap_in xid.seg xid.slot board.records)))
-  -- deeds are numbered in their segment
-  pub next : number ≡ suc (length (recorded_in xid.seg board.records))
-  -- the snapshot is the highest of the session
-  pub last : snapshot ≡ started_up_to session board.past
+  pub next : number ≡ suc (length (recorded_in xid.seg board.records))  -- deeds are numbered in their segment
+  pub last : snapshot ≡ started_up_to session board.past  -- the snapshot is the highest of the session
   -- the newest deed that stands on the row is the transaction's own, or committed up to the snapshot
   pub newest : NewestIsFree (λ other. committed_at other board.past) snapshot xid (row_of deed) (stands board.records)
-  -- the new record is above each snapshot for which the row was read
-  pub floor : board.floor (row_of deed) ≤ board.clock xid.seg
-  -- a change finds the value that stands in the row
-  pub found : Finds deed (stands board.records)
+  pub floor : board.floor (row_of deed) ≤ board.clock xid.seg  -- the new record is above each snapshot for which the row was read
+  pub found : Finds deed (stands board.records)  -- a change finds the value that stands in the row
 
 -- a transaction that has no end is ended by its own instance while it is open, and by any once its instance was lost
 abbrev pub MayEnd : Board → ℕ → Xid → Type 0
@@ -187,32 +143,23 @@ MayEnd board inst xid = (stage xid board.records ≡ Active) × (is_open xid boa
 
 -- The newest deed of a transaction that stands is taken back.
 pub record MayTakeBack (board : Board) (inst : ℕ) (xid : Xid) (seq row left : ℕ) : Type 0 where
-  -- who may end the transaction may take back
-  pub may : MayEnd board inst xid
+  pub may : MayEnd board inst xid  -- who may end the transaction may take back
   pub taken : DeedAt
   pub rest : List DeedAt
-  -- it is the newest of the transaction that stands
-  pub newest : of_xid xid (stands board.records) ≡ taken ∷ rest
-  -- the record names it by its number
-  pub number : seq ≡ taken.seq
-  -- and by its row
-  pub place : row ≡ row_of taken.deed
-  -- while the transaction is open the entry tells how many are left
-  pub stays : is_open xid board.past ≡ true → left ≡ length rest
+  pub newest : of_xid xid (stands board.records) ≡ taken ∷ rest  -- it is the newest of the transaction that stands
+  pub number : seq ≡ taken.seq  -- the record names it by its number
+  pub place : row ≡ row_of taken.deed  -- and by its row
+  pub stays : is_open xid board.past ≡ true → left ≡ length rest  -- while the transaction is open the entry tells how many are left
 
 -- A transaction has been rolled back.
 pub record MayRoll (board : Board) (inst : ℕ) (xid : Xid) : Type 0 where
-  -- its own instance ends it, or another once it was lost
-  pub may : MayEnd board inst xid
-  -- nothing of it stands
-  pub none : of_xid xid (stands board.records) ≡ []
+  pub may : MayEnd board inst xid  -- its own instance ends it, or another once it was lost
+  pub none : of_xid xid (stands board.records) ≡ []  -- nothing of it stands
 
 -- A record becomes durable.
 pub record MaySettle (board : Board) (newer : List Record) (r : Record) (there : List Record) : Type 0 where
-  -- it is on the board
-  pub place : board.records ≡ newer ++ r ∷ there
-  -- it wasn't durable before
-  pub new : board.durable (thread_of r) < scn_of r
+  pub place : board.records ≡ newer ++ r ∷ there  -- it is on the board
+  pub new : board.durable (thread_of r) < scn_of r  -- it wasn't durable before
   -- all that is older in its thread was
   pub first : AllByRecursion (λ o. thread_of o ≡ thread_of r → scn_of o ≤ board.durable (thread_of r)) there
 
@@ -225,12 +172,9 @@ pub record MayAnswer (asked : ℕ → Option Range) (board : Board) (stmt sessio
 
 -- A commit is answered.
 pub record MayAck (insts : ℕ) (board : Board) (stmt scn : ℕ) (xid : Xid) : Type 0 where
-  -- the statement made the commit record
-  pub mark : stood (is_mark_by stmt xid scn) board.past ≡ true
-  -- which is on the board
-  pub commit : stage xid board.records ≡ Over (Some scn)
-  -- and durable
-  pub durable : scn ≤ board.durable xid.seg
+  pub mark : stood (is_mark_by stmt xid scn) board.past ≡ true  -- the statement made the commit record
+  pub commit : stage xid board.records ≡ Over (Some scn)  -- which is on the board
+  pub durable : scn ≤ board.durable xid.seg  -- and durable
   -- each instance that is up starts its statements at the commit's SCN or above
   pub heard : (inst : ℕ) → inst < insts → is_up inst board.past ≡ true → scn ≤ board.known inst
 
@@ -254,51 +198,28 @@ AreNear r o = ((row : ℕ) × (touches row r ≡ true) × (touches row o ≡ tru
 
 -- No record of another thread stands over one that vanishes, on its row or of its transaction.
 abbrev pub LosesNewest : ℕ → ℕ → List Record → Type 0
-LosesNewest inst kept [] = Unit {0}
-LosesNewest inst kept (r ∷ older) =
-    (thread_of r ≢ inst → AllByRecursion (λ o. AreNear r o → is_kept inst kept o ≡ true) older)
-    × LosesNewest inst kept older
+LosesNewest inst kept = EachPair (λ r o. thread_of r ≢ inst → AreNear r o → is_kept inst kept o ≡ true)
 
--- the records that are there after a loss
-abbrev pub kept_of : ℕ → ℕ → List Record → List Record
-kept_of inst kept records = filter (is_kept inst kept) records
-
--- under a change or lock that is kept each record for its segment is kept, by whichever thread
-abbrev pub KeepsSegment : ℕ → ℕ → Record → List Record → Type 0
-KeepsSegment inst kept (Does scn xid seq deed) older =
-    is_kept inst kept (Does scn xid seq deed) ≡ true
-    → AllByRecursion (λ o. (xid_of o).seg ≡ xid.seg → is_kept inst kept o ≡ true) older
-KeepsSegment inst kept _ older = Unit {0}
-
--- so it is under each change or lock
+-- under each change or lock that is kept each record for its segment is kept, by whichever thread
 abbrev pub KeepsSegments : ℕ → ℕ → List Record → Type 0
-KeepsSegments inst kept [] = Unit {0}
-KeepsSegments inst kept (r ∷ older) = KeepsSegment inst kept r older × KeepsSegments inst kept older
+KeepsSegments inst kept = EachPair (λ r o. is_kept inst kept r ≡ true → ForSegment (λ o. is_kept inst kept o ≡ true) r o)
 
 -- An instance is lost, with some of its newest records.
 pub record MayLose (board : Board) (inst kept : ℕ) : Type 0 where
-  -- what was durable is kept
-  pub durable : board.durable inst ≤ kept
-  -- no record of another thread stands over one that vanishes
-  pub newest : LosesNewest inst kept board.records
+  pub durable : board.durable inst ≤ kept  -- what was durable is kept
+  pub newest : LosesNewest inst kept board.records  -- no record of another thread stands over one that vanishes
 
 -- An instance that is down gets new clocks.
 pub record MayJoin (board : Board) (inst scn known : ℕ) : Type 0 where
-  -- it is down
-  pub down : is_up inst board.past ≡ false
-  -- its clock is at or above its durable records
-  pub durable : board.durable inst ≤ scn
-  -- and all other records of its thread
-  pub drawn : AllByRecursion (λ r. thread_of r ≡ inst → scn_of r ≤ scn) board.records
-  -- it knows of no commit above its clock
-  pub low : known ≤ scn
+  pub down : is_up inst board.past ≡ false  -- it is down
+  pub durable : board.durable inst ≤ scn  -- its clock is at or above its durable records
+  pub drawn : AllByRecursion (λ r. thread_of r ≡ inst → scn_of r ≤ scn) board.records  -- and all other records of its thread
+  pub low : known ≤ scn  -- it knows of no commit above its clock
 
 -- An instance comes up.
 pub record MayUp (board : Board) (inst : ℕ) : Type 0 where
-  -- its statements will see each answered commit
-  pub heard : acked_up_to board.past ≤ board.known inst
-  -- no transaction of its segment is left without an end
-  pub ended : (xid : Xid) → xid.seg ≡ inst → stage xid board.records ≢ Active
+  pub heard : acked_up_to board.past ≤ board.known inst  -- its statements will see each answered commit
+  pub ended : (xid : Xid) → xid.seg ≡ inst → stage xid board.records ≢ Active  -- no transaction of its segment is left without an end
   -- what other threads have for its segment is durable
   pub safe : AllByRecursion (λ r. (xid_of r).seg ≡ inst → IsSafe board.durable r) board.records
 
@@ -332,18 +253,11 @@ unread snapshot first = record { snapshot = snapshot; first = first; count = 0; 
 
 -- what a session has read counts no more once its transaction does something
 abbrev pub anew : Bool → Scan → Scan
-anew true scan = unread scan.snapshot scan.first
-anew false scan = scan
+anew t scan = if t then unread scan.snapshot scan.first else scan
 
 -- one more row was read
 abbrev pub read_on : Scan → Value → Scan
-read_on scan v =
-    record {
-      snapshot = scan.snapshot;
-      first = scan.first;
-      count = suc scan.count;
-      rows = scan.rows ++ listed_before (scan.first + scan.count) v [];
-    }
+read_on scan v = record scan { count = suc scan.count; rows = scan.rows ++ listed_before (scan.first + scan.count) v [] }
 
 -- the Committed entry of a record that became durable
 abbrev pub settled : Record → Past → Past
@@ -352,13 +266,12 @@ settled _ past = past
 
 -- a record by an instance at its next SCN, for a transaction; sessions whose last one it is read anew
 abbrev pub recorded : Board → ℕ → Record → Entry → Xid → Board
-recorded board inst r entry xid =
-    record board {
-      records = r ∷ board.records;
-      clock = put board.clock inst (board.clock inst + 1);
-      scan = λ session. anew (is_own (last_of session board.past) xid) (board.scan session);
-      past = entry ∷ board.past;
-    }
+recorded board inst r entry xid = record board {
+  records = r ∷ board.records;
+  clock = put board.clock inst (board.clock inst + 1);
+  scan = λ session. anew (is_own (last_of session board.past) xid) (board.scan session);
+  past = entry ∷ board.past;
+}
 
 -- one more entry, and nothing else
 abbrev pub told : Board → Entry → Board
@@ -367,22 +280,20 @@ told board entry = record board { past = entry ∷ board.past }
 -- what an event does
 abbrev pub after : Board → Event → Board
 after board (opens session inst) = told board (Opened session inst)
-after board (starts stmt session inst least first) =
-    record board {
-      known = put board.known inst (max (board.known inst) least);
-      scan = put board.scan session (unread (max (board.known inst) least) first);
-      past = Started stmt session (max (board.known inst) least) ∷ board.past;
-    }
+after board (starts stmt session inst least first) = record board {
+  known = put board.known inst (max (board.known inst) least);
+  scan = put board.scan session (unread (max (board.known inst) least) first);
+  past = Started stmt session (max (board.known inst) least) ∷ board.past;
+}
 after board (learns inst least) = record board { known = put board.known inst (max (board.known inst) least) }
 after board (raises inst scn) = record board { clock = put board.clock inst (max (board.clock inst) scn) }
-after board (changes stmt session snapshot xid seq deed) =
-    record board {
-      records = Does (board.clock xid.seg + 1) xid seq deed ∷ board.records;
-      clock = put board.clock xid.seg (board.clock xid.seg + 1);
-      floor = put board.floor (row_of deed) (max (board.floor (row_of deed)) snapshot);
-      scan = put board.scan session (unread (board.scan session).snapshot (board.scan session).first);
-      past = entry_of stmt xid deed ∷ board.past;
-    }
+after board (changes stmt session snapshot xid seq deed) = record board {
+  records = Does (board.clock xid.seg + 1) xid seq deed ∷ board.records;
+  clock = put board.clock xid.seg (board.clock xid.seg + 1);
+  floor = put board.floor (row_of deed) (max (board.floor (row_of deed)) snapshot);
+  scan = put board.scan session (unread (board.scan session).snapshot (board.scan session).first);
+  past = entry_of stmt xid deed ∷ board.past;
+}
 after board (takes_back inst xid seq row left) =
     recorded board inst (TakesBack inst (board.clock inst + 1) xid seq row) (Undone xid left) xid
 after board (marks stmt xid) =
@@ -390,39 +301,26 @@ after board (marks stmt xid) =
 after board (rolls inst xid) = recorded board inst (RollsBack inst (board.clock inst + 1) xid) (Rolled xid) xid
 after board (settles newer r there) =
     record board { durable = put board.durable (thread_of r) (scn_of r); past = settled r board.past }
-after board (reads session inst row newer there status) =
-    record board {
-      floor = put board.floor row (max (board.floor row) (board.scan session).snapshot);
-      scan = put board.scan session (read_on (board.scan session) (value_there board session row there status));
-    }
+after board (reads session inst row newer there status) = record board {
+  floor = put board.floor row (max (board.floor row) (board.scan session).snapshot);
+  scan = put board.scan session (read_on (board.scan session) (value_there board session row there status));
+}
 after board (answers stmt session) = told board (Rows stmt (board.scan session).rows)
 after board (acks stmt scn xid) = told board (Acked stmt xid scn)
 after board (notes entry) = told board entry
-after board (loses inst kept loss) =
-    record board {
-      records = kept_of inst kept board.records;
-      scan = λ session. anew (is_home session inst board.past) (board.scan session);
-      past = entry_of_loss inst loss ∷ board.past;
-    }
-after board (joins inst scn known) =
-    record board { clock = put board.clock inst scn; known = put board.known inst known }
+after board (loses inst kept loss) = record board {
+  records = filter (is_kept inst kept) board.records;
+  scan = λ session. anew (is_home session inst board.past) (board.scan session);
+  past = entry_of_loss inst loss ∷ board.past;
+}
+after board (joins inst scn known) = record board { clock = put board.clock inst scn; known = put board.known inst known }
 after board (ups line inst) = told board (Up line inst)
 
 -- the first board: nothing has happened
 abbrev pub nothing : Board
-nothing =
-    record {
-      records = [];
-      durable = λ inst. 0;
-      clock = λ inst. 0;
-      known = λ inst. 0;
-      floor = λ row. 0;
-      scan = λ session. unread 0 0;
-      past = [];
-    }
+nothing = record { records = []; durable = λ inst. 0; clock = λ inst. 0; known = λ inst. 0; floor = λ row. 0; scan = λ session. unread 0 0; past = [] }
 
 -- a run of events leads from a board to another, each of them where it may come
 abbrev pub Leads : (ℕ → Option Range) → ℕ → Board → List Event → Board → Type 0
 Leads asked insts board [] end = board ≡ end
-Leads asked insts board (event ∷ events) end =
-    May asked insts board event × Leads asked insts (after board event) events end
+Leads asked insts board (event ∷ events) end = May asked insts board event × Leads asked insts (after board event) events end

@@ -1,21 +1,14 @@
 -- How the deeds of a segment are numbered, and the transactions of a slot.
-use Rattle.std.specs.Prelude.{ℕ, suc, ◌≡◌, ◌<◌, ◌≤◌, ◌⊎◌, max, Bool, true, false, if◌then◌else◌, ◌==◌, ◌&&◌, List, [], ◌∷◌, ◌++◌, length}
-use Rattle.base_types.specs.declared.names.Xid.{Xid}
-use Rattle.journal.specs.declared.entry.Entry.{Entry}
-use Rattle.journal.specs.declared.entry.Entry.TheVariants.{Changed, Locked, Marked, Rolled}
-use Rattle.journal.specs.Past.{Past, same_xid, is_loss_of}
-use Rattle.journal.specs.declared.deeds.Deed.{Deed}
-use Rattle.journal.specs.declared.deeds.Deed.TheVariants.{Changes, Locks}
-use Rattle.board_rows.specs.Board.{Record, Does, begun}
+use Rattle.std.specs.Prelude.{ℕ, suc, ◌≡◌, ◌≢◌, ◌<◌, ◌≤◌, ◌⊎◌, max, Bool, true, false, if◌then◌else◌, ◌==◌, ◌&&◌, List, [], ◌∷◌, ◌++◌, length}
+use Rattle.board_rows.specs.Words.{Xid, Entry, Changed, Locked, Marked, Rolled, Past, same_xid, is_loss_of, Deed, Changes, Locks}
+use Rattle.board_rows.specs.Board.{Record, Does, Fresh, stage, EachOver}
 
 -- the deeds of a segment that have a record, the newest first
-abbrev pub recorded_after : ℕ → Record → List (Xid × Deed) → List (Xid × Deed)
-recorded_after inst (Does scn xid seq deed) before = if inst == xid.seg then (xid, deed) ∷ before else before
-recorded_after inst _ before = before
-
 abbrev pub recorded_in : ℕ → List Record → List (Xid × Deed)
 recorded_in inst [] = []
-recorded_in inst (r ∷ older) = recorded_after inst r (recorded_in inst older)
+recorded_in inst (Does scn xid seq deed ∷ older) =
+    if inst == xid.seg then (xid, deed) ∷ recorded_in inst older else recorded_in inst older
+recorded_in inst (_ ∷ older) = recorded_in inst older
 
 -- the deeds of a segment that a journal tells, the newest first
 abbrev pub told_after : ℕ → Entry → List (Xid × Deed) → List (Xid × Deed)
@@ -29,21 +22,14 @@ told_in inst [] = []
 told_in inst (e ∷ past) = told_after inst e (told_in inst past)
 
 -- those since its instance was last lost
-abbrev pub since_after : ℕ → Entry → List (Xid × Deed) → List (Xid × Deed)
-since_after inst e before = if is_loss_of inst e then [] else told_after inst e before
-
 abbrev pub since_loss : ℕ → Past → List (Xid × Deed)
 since_loss inst [] = []
-since_loss inst (e ∷ past) = since_after inst e (since_loss inst past)
+since_loss inst (e ∷ past) = if is_loss_of inst e then [] else told_after inst e (since_loss inst past)
 
 -- the deeds of a segment bear the numbers 1, 2, .. in the order made
 abbrev pub IsNumbered : Record → List Record → Type 0
 IsNumbered (Does scn xid seq deed) older = seq ≡ suc (length (recorded_in xid.seg older))
 IsNumbered _ older = Unit {0}
-
-abbrev pub Numbered : List Record → Type 0
-Numbered [] = Unit {0}
-Numbered (r ∷ older) = IsNumbered r older × Numbered older
 
 -- a list stands within another, in the same order
 abbrev pub IsWithin : List (Xid × Deed) → List (Xid × Deed) → Type 0
@@ -52,14 +38,11 @@ IsWithin (deed ∷ deeds) [] = ⊥
 IsWithin (deed ∷ deeds) (first ∷ told) = ((deed ≡ first) × IsWithin deeds told) ⊎ IsWithin (deed ∷ deeds) told
 
 -- the greatest wrap of a slot that has a record
-abbrev pub wrap_after : ℕ → ℕ → Record → ℕ → ℕ
-wrap_after seg slot (Does scn xid seq deed) before =
-    if seg == xid.seg && slot == xid.slot then max xid.wrap before else before
-wrap_after seg slot _ before = before
-
 abbrev pub wrap_in : ℕ → ℕ → List Record → ℕ
 wrap_in seg slot [] = 0
-wrap_in seg slot (r ∷ older) = wrap_after seg slot r (wrap_in seg slot older)
+wrap_in seg slot (Does scn xid seq deed ∷ older) =
+    if seg == xid.seg && slot == xid.slot then max xid.wrap (wrap_in seg slot older) else wrap_in seg slot older
+wrap_in seg slot (_ ∷ older) = wrap_in seg slot older
 
 -- a change entry of a transaction
 abbrev pub is_deed_of : Xid → Entry → Bool
@@ -67,26 +50,18 @@ is_deed_of xid (Changed stmt other row found new) = same_xid xid other
 is_deed_of xid (Locked stmt other row) = same_xid xid other
 is_deed_of xid _ = false
 
--- the transaction of a slot with a wrap
-abbrev pub xid_at : ℕ → ℕ → ℕ → Xid
-xid_at seg slot wrap = record { seg = seg; slot = slot; wrap = wrap }
-
 -- whether a transaction was marked or rolled back since its instance was last lost
-abbrev pub end_after : Xid → Entry → Bool → Bool
-end_after xid (Marked stmt other commit_scn) before = if same_xid xid other then true else before
-end_after xid (Rolled other) before = if same_xid xid other then true else before
-end_after xid e before = if is_loss_of xid.seg e then false else before
-
 abbrev pub has_end : Xid → Past → Bool
 has_end xid [] = false
-has_end xid (e ∷ past) = end_after xid e (has_end xid past)
+has_end xid (Marked stmt other commit_scn ∷ past) = if same_xid xid other then true else has_end xid past
+has_end xid (Rolled other ∷ past) = if same_xid xid other then true else has_end xid past
+has_end xid (e ∷ past) = if is_loss_of xid.seg e then false else has_end xid past
 
 -- The numbers of a segment's deeds, in the records and in the journal, and the wraps of its slots; who has ended since
 -- the loss of its instance has a record.
-pub record Numbers (records : List Record) (told since : ℕ → List (Xid × Deed))
-    (has_deed has_end : Xid → Bool) : Type 0 where
-  pub numbered : Numbered records
+pub record Numbers (records : List Record) (told since : ℕ → List (Xid × Deed)) (has_deed has_end : Xid → Bool) : Type 0 where
+  pub numbered : EachOver IsNumbered records
   pub newest : (inst : ℕ) → (rest : List (Xid × Deed)) × (recorded_in inst records ≡ since inst ++ rest)
   pub within : (inst : ℕ) → IsWithin (recorded_in inst records) (told inst)
-  pub wraps : (seg slot wrap : ℕ) → 0 < wrap → wrap ≤ wrap_in seg slot records → has_deed (xid_at seg slot wrap) ≡ true
-  pub ended : (xid : Xid) → has_end xid ≡ true → begun xid records ≡ true
+  pub wraps : (xid : Xid) → 0 < xid.wrap → xid.wrap ≤ wrap_in xid.seg xid.slot records → has_deed xid ≡ true
+  pub ended : (xid : Xid) → has_end xid ≡ true → stage xid records ≢ Fresh

@@ -1,16 +1,8 @@
 -- What stands in one row, and what of it is seen.
 use Rattle.std.specs.Prelude.{ℕ, Bool, true, false, if◌then◌else◌, ◌==◌, ◌&&◌, ◌≡◌, ◌<◌, ◌≤◌, ◌⊎◌, nat_le, List, [], ◌∷◌, map, Option, Some, None, IsSomeAnd}
-use Rattle.std.specs.List.{filter, AllByRecursion}
-use Rattle.base_types.specs.declared.names.Xid.{Xid}
-use Rattle.journal.specs.declared.entry.Entry.{Entry}
-use Rattle.journal.specs.declared.entry.Entry.TheVariants.{Committed}
-use Rattle.journal.specs.Past.{Past, same_xid}
-use Rattle.journal.specs.declared.deeds.Change.{Change}
-use Rattle.journal.specs.declared.deeds.Deed.{Deed}
-use Rattle.journal.specs.Standing.{row_of, changes_of}
-use Rattle.journal.specs.declared.deeds.Commit.{Commit}
-use Rattle.journal.specs.History.{entered, changes_up_to}
-use Rattle.board_rows.specs.Board.{Record, Commits, DeedAt, of_xid, stands}
+use Rattle.std.specs.List.{filter}
+use Rattle.board_rows.specs.Words.{Xid, Committed, Past, same_xid, Change, Deed, row_of, changes_of, Commit, entered, changes_up_to}
+use Rattle.board_rows.specs.Board.{Record, Commits, DeedAt, of_xid, stands, EachPair}
 
 -- whether a change or lock is on a row
 abbrev pub on : ℕ → DeedAt → Bool
@@ -30,13 +22,10 @@ abbrev pub on_row : ℕ → List Change → List Change
 on_row row changes = filter (λ change. change.row == row) changes
 
 -- the SCN of the commit that a journal tells
-abbrev pub committed_after : Xid → Entry → Option ℕ → Option ℕ
-committed_after xid (Committed other scn inst) before = if same_xid xid other then Some scn else before
-committed_after xid _ before = before
-
 abbrev pub committed_at : Xid → Past → Option ℕ
 committed_at xid [] = None
-committed_at xid (e ∷ past) = committed_after xid e (committed_at xid past)
+committed_at xid (Committed other scn inst ∷ past) = if same_xid xid other then Some scn else committed_at xid past
+committed_at xid (_ ∷ past) = committed_at xid past
 
 -- whether there is a commit up to an SCN
 abbrev pub is_up_to : ℕ → Option ℕ → Bool
@@ -54,19 +43,16 @@ IsOver committed m o =
 
 -- each deed stands so over those under it
 abbrev pub Ordered : (Xid → Option ℕ) → List DeedAt → Type 0
-Ordered committed [] = Unit {0}
-Ordered committed (m ∷ deeds) = AllByRecursion (IsOver committed m) deeds × Ordered committed deeds
+Ordered committed = EachPair (IsOver committed)
 
 -- The table at an SCN is what stands of the transactions that committed up to it.
 abbrev pub TableStands : (Xid → Option ℕ) → List Commit → List DeedAt → Type 0
-TableStands committed commits deeds =
-    (snapshot row : ℕ) →
+TableStands committed commits deeds = (snapshot row : ℕ) →
     on_row row (changes_up_to snapshot commits) ≡ changes_of (shown row (seen_at snapshot committed) deeds)
 
 -- a commit of the history is what stands of its transaction
 abbrev pub IsMade : (Xid → Option ℕ) → List DeedAt → Commit → Type 0
-IsMade committed deeds commit =
-    (committed commit.xid ≡ Some commit.commit_scn)
+IsMade committed deeds commit = (committed commit.xid ≡ Some commit.commit_scn)
     × (commit.changes ≡ changes_of (deeds_in (of_xid commit.xid deeds)))
 
 -- a commit by its record, where these are the records before it
@@ -75,19 +61,15 @@ commit_of scn xid older =
     record { commit_scn = scn; inst = xid.seg; xid = xid; changes = changes_of (deeds_in (of_xid xid (stands older))) }
 
 -- The history that the logs tell: the commits whose records are durable, each with what then stood of it.
-abbrev pub logged_after : (ℕ → ℕ) → Record → List Record → List Commit → List Commit
-logged_after durable (Commits scn xid) older before =
-    if nat_le scn (durable xid.seg) then entered (commit_of scn xid older) before else before
-logged_after durable _ older before = before
-
 abbrev pub logged : (ℕ → ℕ) → List Record → List Commit
 logged durable [] = []
-logged durable (r ∷ older) = logged_after durable r older (logged durable older)
+logged durable (Commits scn xid ∷ older) =
+    if nat_le scn (durable xid.seg) then entered (commit_of scn xid older) (logged durable older) else logged durable older
+logged durable (_ ∷ older) = logged durable older
 
 -- a deed on a row is of a transaction, or of one that has committed up to an SCN
 abbrev pub IsFree : (Xid → Option ℕ) → ℕ → Xid → ℕ → DeedAt → Type 0
-IsFree committed snapshot xid row o =
-    on row o ≡ true → (o.xid ≡ xid) ⊎ IsSomeAnd (committed o.xid) (λ scn. scn ≤ snapshot)
+IsFree committed snapshot xid row o = on row o ≡ true → (o.xid ≡ xid) ⊎ IsSomeAnd (committed o.xid) (λ scn. scn ≤ snapshot)
 
 -- the newest deed on a row is
 abbrev pub NewestIsFree : (Xid → Option ℕ) → ℕ → Xid → ℕ → List DeedAt → Type 0
@@ -97,7 +79,5 @@ NewestIsFree committed snapshot xid row (m ∷ deeds) =
 
 -- under each deed of a transaction all on its row are
 abbrev pub FreeUnder : (Xid → Option ℕ) → ℕ → Xid → List DeedAt → Type 0
-FreeUnder committed snapshot xid [] = Unit {0}
-FreeUnder committed snapshot xid (m ∷ deeds) =
-    (same_xid xid m.xid ≡ true → AllByRecursion (IsFree committed snapshot xid (row_of m.deed)) deeds)
-    × FreeUnder committed snapshot xid deeds
+FreeUnder committed snapshot xid =
+    EachPair (λ m o. same_xid xid m.xid ≡ true → IsFree committed snapshot xid (row_of m.deed) o)

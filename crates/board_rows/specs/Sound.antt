@@ -1,25 +1,13 @@
 -- What holds of the board after every event.
-use Rattle.std.specs.Prelude.{ℕ, ◌+◌, ◌≡◌, ◌<◌, ◌≤◌, ◌⊎◌, Bool, true, false, List, [], ◌∷◌, Option, Some, None, IsSomeAnd}
+use Rattle.std.specs.Prelude.{ℕ, ◌+◌, ◌≡◌, ◌≢◌, ◌<◌, ◌≤◌, ◌⊎◌, Bool, true, false, List, [], Option, Some, None, IsSomeAnd}
 use Rattle.std.specs.List.{AllByRecursion}
-use Rattle.base_types.specs.declared.names.Xid.{Xid}
-use Rattle.base_types.specs.declared.value.Value.{Value}
-use Rattle.journal.specs.declared.entry.Entry.{Entry}
-use Rattle.journal.specs.declared.entry.Entry.TheVariants.{Rows, Changed}
-use Rattle.journal.specs.Past.{Past, Each, start_of, home_of, is_up}
-use Rattle.journal.specs.declared.deeds.Change.{Change}
-use Rattle.journal.specs.declared.deeds.Deed.{Deed}
-use Rattle.journal.specs.Standing.{row_of, changes_of, standing, is_open}
-use Rattle.journal.specs.declared.deeds.Commit.{Commit}
-use Rattle.journal.specs.History.{history, marked}
-use Rattle.journal.specs.Sees.{sees, last_of}
-use Rattle.journal.specs.Stood.{stood, is_mark, is_commit_by, acked_up_to, started_up_to, came_up}
-use Rattle.journal.specs.Good.{Range, listed, RowsAreSeen, FoundIsSeen, CommitIsProper, AckIsProper, StartIsProper, RowIsFree, changes_in, Replays}
-use Rattle.board_rows.specs.Board.{Record, Does, TakesBack, Commits, RollsBack, thread_of, scn_of, xid_of, stands, of_xid, Stage, Fresh, Active, Over, stage, begun, durable_commit, EachSuffix, Rising, IsSafe}
+use Rattle.board_rows.specs.Words.{Xid, Value, Entry, Rows, Changed, Past, Each, start_of, home_of, is_up, Change, Deed, row_of, changes_of, standing, is_open, Commit, history, marked, sees, last_of, stood, is_mark, is_commit_by, acked_up_to, started_up_to, came_up, Range, listed, RowsAreSeen, FoundIsSeen, CommitIsProper, AckIsProper, StartIsProper, RowIsFree, changes_in, Replays}
+use Rattle.board_rows.specs.Board.{Record, Does, Commits, RollsBack, thread_of, scn_of, xid_of, stands, of_xid, Stage, Fresh, Active, Over, stage, durable_commit, EachSuffix, EachOver, EachPair, Rising, IsSafe, ForSegment}
 use Rattle.board_rows.specs.Rows.{deeds_in, committed_at, Ordered, TableStands, IsMade, FreeUnder, logged}
 use Rattle.board_rows.specs.Numbers.{Numbers, told_in, since_loss, is_deed_of, has_end}
 use Rattle.board_rows.specs.Events.{Board, Scan, IsLate}
 
--- clocks, and the SCNs of records by thread
+-- The SCNs of a thread rise, and no clock is behind what its instance knows and has made.
 pub record Clocks (records : List Record) (clock known durable : ℕ → ℕ) : Type 0 where
   pub knows : (inst : ℕ) → known inst ≤ clock inst
   pub lasts : (inst : ℕ) → durable inst ≤ clock inst
@@ -34,9 +22,8 @@ IsBelow scn _ = Unit {0}
 -- the records of a committed transaction are below its commit
 abbrev pub EndsBy : Stage → Record → Type 0
 EndsBy st (Commits scn xid) = st ≡ Over (Some scn)
-EndsBy st (Does scn xid seq deed) = IsBelow scn st
-EndsBy st (TakesBack inst scn xid seq row) = IsBelow scn st
 EndsBy st (RollsBack inst scn xid) = Unit {0}
+EndsBy st r = IsBelow (scn_of r) st
 
 -- a change or lock may be a transaction's first record, and no record follows its end
 abbrev pub MayFollow : Record → Stage → Type 0
@@ -47,12 +34,7 @@ MayFollow r Fresh = ⊥
 
 -- each record may follow those before it
 abbrev pub Follows : List Record → Type 0
-Follows [] = Unit {0}
-Follows (r ∷ older) = MayFollow r (stage (xid_of r) older) × Follows older
-
--- a transaction that is open or has no record yet
-abbrev pub MayGoOn : List Record → (Xid → Bool) → Xid → Type 0
-MayGoOn records live xid = (live xid ≡ true) ⊎ (stage xid records ≡ Fresh)
+Follows = EachOver (λ r older. MayFollow r (stage (xid_of r) older))
 
 -- a transaction that is open or has its commit record
 abbrev pub CanCommit : Bool → Stage → Type 0
@@ -60,18 +42,12 @@ CanCommit live (Over (Some scn)) = Unit {0}
 CanCommit live (Over None) = ⊥
 CanCommit live _ = live ≡ true
 
--- what stands of a transaction, by its deeds, and whether its journal says that it is marked
-pub record IsMarked (changes : List Change) (has : Bool) (deeds : List Deed) : Type 0 where
-  pub same : changes ≡ changes_of deeds
-  pub stood : has ≡ true
-
--- what the board and the journal say of a transaction: its stage and its deeds on the board; its deeds, whether it
--- is open, its marks and its commit in the journal
+-- what is said of a transaction: its stage and deeds on the board; its deeds, whether it is open, marks and commit in the journal
 pub record TxnAgrees (st : Stage) (deeds stand : List Deed) (live : Bool) (mark : ℕ → List Change) (has_mark : ℕ → Bool)
     (committed : Option ℕ) (upto : ℕ) : Type 0 where
   pub active : live ≡ true → st ≡ Active
   pub stands : (live ≡ true) ⊎ (st ≡ Fresh) → stand ≡ deeds
-  pub marks : (scn : ℕ) → st ≡ Over (Some scn) → IsMarked (mark scn) (has_mark scn) deeds
+  pub marks : (scn : ℕ) → st ≡ Over (Some scn) → (mark scn ≡ changes_of deeds) × (has_mark scn ≡ true)
   pub commits : committed ≡ durable_commit upto st
   pub rolled : st ≡ Over None → deeds ≡ []
 
@@ -84,7 +60,7 @@ pub record RecordAgrees (st : Stage) (live : Bool) (r : Record) : Type 0 where
 abbrev pub RecordIsIn : List Record → (Xid → Bool) → Record → Type 0
 RecordIsIn records live r = RecordAgrees (stage (xid_of r) records) (live (xid_of r)) r
 
--- the transactions of the journal are those of the board
+-- A transaction is on the board what it is in the journal.
 pub record Txns (records : List Record) (durable : ℕ → ℕ) (stand : Xid → List Deed) (live : Xid → Bool)
     (mark : Xid → ℕ → List Change) (has_mark : Xid → ℕ → Bool) (committed : Xid → Option ℕ)
     (has_commit : ℕ → ℕ → Bool) : Type 0 where
@@ -94,30 +70,22 @@ pub record Txns (records : List Record) (durable : ℕ → ℕ) (stand : Xid →
   pub follows : Follows records
   pub apart : (scn inst : ℕ) → durable inst < scn → has_commit scn inst ≡ false
 
--- Under a change or lock each record that another thread has for its segment has entered, so no loss takes it away.
-abbrev pub IsOnSafe : (ℕ → ℕ) → Record → List Record → Type 0
-IsOnSafe durable (Does scn xid seq deed) older = AllByRecursion (λ o. (xid_of o).seg ≡ xid.seg → IsSafe durable o) older
-IsOnSafe durable _ older = Unit {0}
-
-abbrev pub AreOnSafe : (ℕ → ℕ) → List Record → Type 0
-AreOnSafe durable [] = Unit {0}
-AreOnSafe durable (r ∷ older) = IsOnSafe durable r older × AreOnSafe durable older
-
 -- The transactions of an instance that is up are open until they end, and those of one that is down aren't open; what
--- other threads have for the segment of an instance that is up has entered.
+-- other threads have for the segment of an instance that is up has entered. Under a change or lock each record that
+-- another thread has for its segment has entered, so no loss takes it away.
 pub record Segments (records : List Record) (durable : ℕ → ℕ) (live : Xid → Bool) (up : ℕ → Bool) : Type 0 where
   pub lives : (xid : Xid) → live xid ≡ true → up xid.seg ≡ true
   pub active : (xid : Xid) → stage xid records ≡ Active → up xid.seg ≡ true → live xid ≡ true
   pub safe : AllByRecursion (λ r. up (xid_of r).seg ≡ true → IsSafe durable r) records
-  pub under : AreOnSafe durable records
+  pub under : EachPair (ForSegment (IsSafe durable)) records
 
--- the last transactions of the sessions
-pub record Sessions (begins : Xid → Bool) (last : ℕ → Option Xid) (home : ℕ → Option ℕ) : Type 0 where
-  pub used : (session : ℕ) (xid : Xid) → last session ≡ Some xid → begins xid ≡ true
+-- A session's last transaction has begun, on its instance, and is no other session's.
+pub record Sessions (stage_of : Xid → Stage) (last : ℕ → Option Xid) (home : ℕ → Option ℕ) : Type 0 where
+  pub used : (session : ℕ) (xid : Xid) → last session ≡ Some xid → stage_of xid ≢ Fresh
   pub single : (other session : ℕ) (xid : Xid) → last other ≡ Some xid → last session ≡ Some xid → other ≡ session
   pub at_home : (session : ℕ) (xid : Xid) → last session ≡ Some xid → home session ≡ Some xid.seg
 
--- the table is what stands of the commits
+-- What stands in the rows is what has committed, and replays: the table is what stands of the commits.
 pub record RowsStand (records : List Record) (committed : Xid → Option ℕ) (commits : List Commit) : Type 0 where
   pub order : EachSuffix (λ older. Ordered committed (stands older)) records
   pub deeds_replay : EachSuffix (λ older. Replays (changes_of (deeds_in (stands older)))) records
@@ -125,19 +93,16 @@ pub record RowsStand (records : List Record) (committed : Xid → Option ℕ) (c
   pub made : AllByRecursion (IsMade committed (stands records)) commits
   pub replay : Replays (changes_in commits)
 
--- no commit will change what was read: what stands in a row and isn't committed commits above each SCN at which the
--- row was read
+-- No commit will change what was read: what stands in a row and isn't committed commits above each SCN that it was read at.
 abbrev pub RowsAreLate : List Record → (ℕ → ℕ) → (ℕ → ℕ) → (Xid → Bool) → (Xid → Option ℕ) → Type 0
-RowsAreLate records clock floor live committed =
-    AllByRecursion (λ m. committed m.xid ≡ None →
+RowsAreLate records clock floor live committed = AllByRecursion (λ m. committed m.xid ≡ None →
     IsLate (floor (row_of m.deed)) (live m.xid) (stage m.xid records) (clock m.xid.seg)) (stands records)
 
 -- starts are at or above what was answered before
 pub record Starts (insts : ℕ) (known : ℕ → ℕ) (home : ℕ → Option ℕ) (started : ℕ → ℕ) (came : ℕ → Bool)
     (up : ℕ → Bool) (acked : ℕ) : Type 0 where
   pub acks : (inst : ℕ) → inst < insts → up inst ≡ true → acked ≤ known inst
-  pub starts : (session inst : ℕ) → home session ≡ Some inst → came session ≡ false → up inst ≡ true →
-      started session ≤ known inst
+  pub starts : (session inst : ℕ) → home session ≡ Some inst → came session ≡ false → up inst ≡ true → started session ≤ known inst
   pub unopened : (session : ℕ) → home session ≡ None → started session ≡ 0
   pub homes : (session inst : ℕ) → home session ≡ Some inst → inst < insts
 
@@ -147,8 +112,7 @@ AreRead floor snapshot first count = (row : ℕ) → first ≤ row → row < fir
 
 -- the rows that an entry tells of were read at the SCN of its statement
 abbrev pub IsRead : (ℕ → Option Range) → (ℕ → ℕ) → Past → Entry → Type 0
-IsRead asked floor past (Rows stmt rows) =
-    IsSomeAnd (asked stmt) (λ range. IsSomeAnd (start_of stmt past) (λ start.
+IsRead asked floor past (Rows stmt rows) = IsSomeAnd (asked stmt) (λ range. IsSomeAnd (start_of stmt past) (λ start.
     AreRead floor start.snapshot range.first range.count))
 IsRead asked floor past (Changed stmt xid row found new) =
     IsSomeAnd (start_of stmt past) (λ start. start.snapshot ≤ floor row)
@@ -159,7 +123,7 @@ pub record ScanIsSeen (floor : ℕ → ℕ) (scan : Scan) (value : ℕ → ℕ �
   pub seen : scan.rows ≡ listed (value scan.snapshot) scan.first scan.count
   pub read : AreRead floor scan.snapshot scan.first scan.count
 
--- what was answered, and what is being read
+-- What was answered, and what is being read, is what sessions see.
 pub record Answers (asked : ℕ → Option Range) (floor : ℕ → ℕ) (scan : ℕ → Scan) (past : Past)
     (commits : List Commit) : Type 0 where
   pub rows : Each (RowsAreSeen asked commits) past
@@ -177,38 +141,27 @@ pub record IsProper (past : Past) : Type 0 where
 
 -- What holds of a board after every run, where statements ask for these rows and there are so many instances.
 pub record Sound (asked : ℕ → Option Range) (insts : ℕ) (board : Board) : Type 0 where
-  -- the SCNs of a thread rise, and no clock is behind what its instance knows and has made
   pub clocks : Clocks board.records board.clock board.known board.durable
-  -- a transaction is on the board what it is in the journal
   pub txns : Txns board.records board.durable (λ xid. standing xid board.past) (λ xid. is_open xid board.past)
       (λ xid scn. marked xid scn board.past) (λ xid scn. stood (is_mark xid scn) board.past)
       (λ xid. committed_at xid board.past) (λ scn inst. stood (is_commit_by scn inst) board.past)
-  -- a session's last transaction has begun, on its instance, and is no other session's
-  pub sessions : Sessions (λ xid. begun xid board.records) (λ session. last_of session board.past)
+  pub sessions : Sessions (λ xid. stage xid board.records) (λ session. last_of session board.past)
       (λ session. home_of session board.past)
-  -- who is open where an instance is up, and what others have written for it
   pub segments : Segments board.records board.durable (λ xid. is_open xid board.past) (λ inst. is_up inst board.past)
-  -- what stands in the rows is what has committed, and replays
   pub rows : RowsStand board.records (λ xid. committed_at xid board.past) (history board.past)
   -- under a deed of an open transaction all on its row is its own, or committed up to its session's last start
   pub owns : (session : ℕ) (xid : Xid) → last_of session board.past ≡ Some xid → is_open xid board.past ≡ true →
       EachSuffix (λ older. FreeUnder (λ other. committed_at other board.past) (started_up_to session board.past) xid
       (stands older)) board.records
-  -- the journal's history is that of the durable records
-  pub log_history : history board.past ≡ logged board.durable board.records
-  -- the numbers of deeds and the wraps of slots
+  pub log_history : history board.past ≡ logged board.durable board.records  -- the journal's history is that of the durable records
   pub numbers : Numbers board.records (λ inst. told_in inst board.past) (λ inst. since_loss inst board.past)
       (λ xid. stood (is_deed_of xid) board.past) (λ xid. has_end xid board.past)
-  -- no commit will change what was read
   pub late : RowsAreLate board.records board.clock board.floor (λ xid. is_open xid board.past)
       (λ xid. committed_at xid board.past)
-  -- statements start at or above what was answered
   pub starts : Starts insts board.known (λ session. home_of session board.past)
       (λ session. started_up_to session board.past) (λ session. came_up session board.past)
       (λ inst. is_up inst board.past) (acked_up_to board.past)
   -- sessions read at the highest snapshot that they started at
   pub reads_at : (session : ℕ) → (board.scan session).snapshot ≡ started_up_to session board.past
-  -- what was answered, and what is being read, is what sessions see
   pub answers : Answers asked board.floor board.scan board.past (history board.past)
-  -- entries stand where they may
   pub proper : IsProper board.past

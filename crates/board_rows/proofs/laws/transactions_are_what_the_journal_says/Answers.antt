@@ -1,7 +1,6 @@
 -- By the clauses on segments, transactions and numbers.
 use Rattle.std.proofs.Common.{◌≡◌, Bool, true, false, refl, inl}
 use Rattle.board_rows.specs.Numbers.{has_end}
-use Rattle.board_rows.proofs.TxnSteps.{begun-used}
 use Rattle.board_rows.proofs.laws.transactions_are_what_the_journal_says.Goals as goal
 
 pub returns-clause-open : goal.returns-clause-open
@@ -18,4 +17,4 @@ returns-clause-new c asked insts board xid sound fresh = here (has_end xid board
   where
     here : (t : Bool) → has_end xid board.past ≡ t → t ≡ false
     here false e = refl
-    here true e = absurd (begun-used xid board.records (sound.numbers.ended xid e) fresh)
+    here true e = absurd (sound.numbers.ended xid e fresh)
