@@ -1,0 +1,10 @@
+pub mod Block
+pub mod Slots
+pub mod Records
+pub mod Views
+pub mod Told
+pub mod Images
+pub mod Header
+pub mod Ring
+pub mod Decide
+pub mod Losses

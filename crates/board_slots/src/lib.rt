@@ -1,0 +1,6 @@
+//! The slots of data blocks: what a block says of the deeds that stand in it, and what a consistent copy of it shows.
+#![tactic(auto)]
+
+mod laws;
+
+pub use laws::each_record_keeps_a_block_sound;
