@@ -36,13 +36,13 @@ module _ (committed : Xid → Option ℕ) (s : ℕ) (me : Option Xid) (visible :
   abbrev F : Deed → Type 0
   F m = Fits committed s me visible class_of number fetch m
 
-  abbrev heads_of : Rest → Option Halt
+  abbrev pub heads_of : Rest → Option Halt
   heads_of rest = first_of (λ k. head_halt class_of (rest.slot k)) four
 
-  abbrev undos_of : Rest → Option Halt
+  abbrev pub undos_of : Rest → Option Halt
   undos_of rest = first_of (λ k. undo_halt class_of number fetch k (rest.slot k)) four
 
-  abbrev best_of : Rest → Option Pick
+  abbrev pub best_of : Rest → Option Pick
   best_of rest = best (λ k. pick class_of number fetch k (rest.slot k)) four
 
   -- a round of the program's over what is left

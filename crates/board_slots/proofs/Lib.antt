@@ -8,9 +8,10 @@ pub mod Rounds
 pub mod Copies
 pub mod Works
 pub mod Ends
+pub mod Reasons
+pub mod Shows
 pub mod Keeps
 pub mod Readers
-pub mod Endings
 pub mod Deciding
 pub mod Follows
 pub mod Moments

@@ -44,6 +44,9 @@ pub all_each : {A X : Type 0} (P : A → X → Type 0) (xs : List X) → ((a : A
 all_each P [] f = tt
 all_each P (x ∷ xs) f = ((λ a. (f a).0), all_each P xs (λ a. (f a).1))
 
+pub four-in : AllByRecursion (λ k. (1 ≤ k) × (k ≤ 4)) four
+four-in = ((omega arith, omega arith), ((omega arith, omega arith), ((omega arith, omega arith), ((omega arith, omega arith), tt))))
+
 -- a number from 1 to 4
 pub four-all : (P : ℕ → Type 0) → AllByRecursion P four → (k : ℕ) → 1 ≤ k → k ≤ 4 → P k
 four-all P h zero a b = absurd (omega arith)

@@ -3,4 +3,4 @@
 
 mod laws;
 
-pub use laws::each_record_keeps_a_block_sound;
+pub use laws::{copies_show_what_is_visible, each_record_keeps_a_block_sound};
