@@ -10,6 +10,7 @@ pub mod Works
 pub mod Ends
 pub mod Reasons
 pub mod Shows
+pub mod Seen
 pub mod Keeps
 pub mod Readers
 pub mod Deciding

@@ -1,15 +1,19 @@
-ghost use Rattle.std.specs.Prelude.{ℕ, Option, None, List, ◌∷◌, ◌≡◌, ◌≢◌, ◌||◌, ◌<◌, IfSome};
+ghost use Rattle.std.specs.Prelude.{ℕ, Option, None, Result, List, ◌∷◌, ◌≡◌, ◌≢◌, ◌||◌, ◌<◌, IfSome};
 ghost use Rattle.std.specs.List.{AllByRecursion};
 ghost use Rattle.base_types.specs.declared.names.Xid.{Xid};
 ghost use Rattle.base_types.specs.declared.value.Value.{Value};
+ghost use Rattle.redo_types.specs.declared.blocks.ItlSlot.{ItlSlot};
 ghost use Rattle.block_image.specs.Block.{BlockContent};
 ghost use Rattle.undo_segment.specs.declared.fetch.Fetch.{Fetch};
 ghost use Rattle.undo_segment.specs.declared.look.Look.{Look};
 ghost use Rattle.txn_slots.specs.Own.{is_own};
+ghost use Rattle.cr_copy.specs.declared.copy.Pick.{Pick};
+ghost use Rattle.cr_copy.specs.declared.copy.Work.{Work};
+ghost use Rattle.cr_copy.specs.declared.made.Halt.{Halt};
 ghost use Rattle.cr_copy.specs.declared.made.Made.TheVariants.{Bad, Rows};
-ghost use Rattle.cr_copy.specs.Copy.{make};
+ghost use Rattle.cr_copy.specs.Copy.{make, rounds};
 ghost use Rattle.board_slots.specs.Block.{Record, committed, content, stands};
-ghost use Rattle.board_slots.specs.Images.{IsSeen};
+ghost use Rattle.board_slots.specs.Images.{block_of, IsSeen};
 ghost use Rattle.board_slots.specs.Records.{May, AreMade, Sound};
 ghost use Rattle.board_slots.specs.Told.{ended_by, HasReason, IsTold};
 ghost use Rattle.board_slots.specs.Views.{ReaderFollows, value_at, view};
@@ -18,6 +22,12 @@ ghost use Rattle.board_slots.specs.Views.{ReaderFollows, value_at, view};
 pub fn each_record_keeps_a_block_sound()
     ensures record_kept { (records : List Record) (r : Record) → May records r → Sound records → Sound (r ∷ records) }
     ensures run { (records : List Record) → AreMade records → Sound records }
+{}
+
+/// A block to which records that the rules make were applied has what the rules say of it.
+pub fn blocks_have_what_records_say()
+    ensures seen { (number : ℕ) (records : List Record) → AreMade records → IsSeen (block_of number records) (content records) }
+    ensures number { (number : ℕ) (records : List Record) → (block_of number records).front.number ≡ number }
 {}
 
 /// The rows of a consistent copy are those that the reader's own transaction and the ones that ended up to s left. A
@@ -40,4 +50,10 @@ pub fn copies_show_what_is_visible()
         IfSome me (λ x. committed records x ≡ None) →
         AllByRecursion (IsTold block.front.number (committed records) ended look fetch) (stands records) →
         HasReason s look fetch (stands records) (make s me look fetch block) }
+{}
+
+/// Over any content the rounds of a copy come to an end: more of them change nothing.
+pub fn copies_end()
+    ensures { (round : List ItlSlot → Result (Option Pick) Halt) (fuel more last : ℕ) (work : Work) →
+        last < fuel → last < more → rounds round fuel last work ≡ rounds round more last work }
 {}

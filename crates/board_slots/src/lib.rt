@@ -3,4 +3,7 @@
 
 mod laws;
 
-pub use laws::{copies_show_what_is_visible, each_record_keeps_a_block_sound};
+pub use laws::{
+    blocks_have_what_records_say, copies_end, copies_show_what_is_visible,
+    each_record_keeps_a_block_sound,
+};
