@@ -7,7 +7,8 @@ use Rattle.base_types.specs.declared.names.Xid.{Xid}
 use Rattle.journal.specs.Past.{same_xid}
 use Rattle.journal.proofs.XidLemmas.{same_xid-refl, same_xid-true}
 use Rattle.board_slots.specs.Block.{Deed, on_row, Record, Does, TakesBack, Commits, RollsBack, Over, stage, commit_in, committed, stands, is_that, without}
-use Rattle.board_slots.specs.Copy.{is_own, ReaderFollows}
+use Rattle.txn_slots.specs.Own.{is_own}
+use Rattle.board_slots.specs.Views.{ReaderFollows}
 use Rattle.board_slots.specs.Records.{May}
 use Rattle.board_slots.specs.Decide.{RowIsFree}
 use Rattle.board_slots.proofs.Newest.{clash, all_map}

@@ -7,7 +7,9 @@ use Rattle.journal.specs.Past.{same_xid}
 use Rattle.journal.proofs.XidLemmas.{same_xid-refl, same_xid-true}
 use Rattle.board_slots.specs.Block.{Deed, by, Record, Does, TakesBack, Commits, RollsBack, Open, Over, stage, commit_in, committed, stands}
 use Rattle.board_slots.specs.Records.{AreMade, DeedsBelow}
-use Rattle.board_slots.specs.Copy.{Look, Fetch, IsFetched}
+use Rattle.undo_segment.specs.declared.fetch.Fetch.{Fetch}
+use Rattle.undo_segment.specs.declared.look.Look.{Look}
+use Rattle.board_slots.specs.Views.{IsWritten, undo_of}
 use Rattle.board_slots.specs.Told.{ended, IsLook, IsTold}
 use Rattle.board_slots.proofs.Newest.{all_map, all_both, all_append}
 use Rattle.board_slots.proofs.Keeps.{OfRecord, stands-from}
@@ -112,11 +114,11 @@ each_own Q [] f = tt
 each_own Q (m ∷ deeds) f = ((f m.xid).0 (same_xid-refl m.xid), each_own Q deeds (λ x. (f x).1))
 
 -- headers of later moments, one for each transaction's segment, and undo of a later moment
-pub told-later : (there : List Record) (newer : Xid → List Record) (look : Xid → Look) (fetch : Xid → ℕ → Fetch) → ((x : Xid) → AreMade (newer x ++ there))
-    → ((x : Xid) → IsLook (ended (newer x ++ there) x) (look x)) → AllByRecursion (λ m. IsFetched m (fetch m.xid m.seq)) (stands there)
-    → AllByRecursion (IsTold (committed there) (λ x. ended (newer x ++ there) x) look fetch) (stands there)
-told-later there newer look fetch made looks fetched =
-    all_both (λ m. IfSome (ended (newer m.xid ++ there) m.xid) (λ e. m.scn < e)) (λ m. IsFetched m (fetch m.xid m.seq)) (IsTold (committed there) (λ x. ended (newer x ++ there) x) look fetch) (stands there)
+pub told-later : (number : ℕ) (there : List Record) (newer : Xid → List Record) (look : Xid → Look) (fetch : Xid → ℕ → Fetch) → ((x : Xid) → AreMade (newer x ++ there))
+    → ((x : Xid) → IsLook (ended (newer x ++ there) x) (look x)) → AllByRecursion (λ m. IsWritten (undo_of number m) (fetch m.xid m.seq)) (stands there)
+    → AllByRecursion (IsTold number (committed there) (λ x. ended (newer x ++ there) x) look fetch) (stands there)
+told-later number there newer look fetch made looks fetched =
+    all_both (λ m. IfSome (ended (newer m.xid ++ there) m.xid) (λ e. m.scn < e)) (λ m. IsWritten (undo_of number m) (fetch m.xid m.seq)) (IsTold number (committed there) (λ x. ended (newer x ++ there) x) look fetch) (stands there)
     (λ m above f. record { stays = λ c e. commit-stays m.xid c (newer m.xid) there (made m.xid) e; above = above; looks = looks m.xid; fetched = f })
     (each_own (λ x m. IfSome (ended (newer x ++ there) x) (λ e. m.scn < e)) (stands there) (λ x. end-over x (newer x) there (made x)))
     fetched

@@ -1,39 +1,62 @@
--- A record that is found by its number is the one that was written under it.
+-- An undo record that is found by its number is the one that was written under it.
 use Rattle.std.proofs.Common.{◌≡◌, ℕ, ◌<◌, ◌-◌, ◌%◌, Bool, true, false, cond, ◌==◌, List, [], ◌∷◌, refl, sym, ap, ◌∙◌, arith}
 use Rattle.std.specs.Prelude.{Option, Some, None}
 use Rattle.std.specs.List.{AllByRecursion}
-use Rattle.std.proofs.lemmas.Bool.{eqb-true}
-use Rattle.board_slots.specs.Block.{Deed, newest}
-use Rattle.board_slots.specs.Copy.{Reused, Has, undo_of number, IsFetched}
-use Rattle.board_slots.specs.Ring.{Rising, at_place, fetched_of, fetch_in}
-use Rattle.board_slots.proofs.Newest.{all_map, newest-all}
+use Rattle.std.proofs.lemmas.Bool.{eqb-true, eq-eqb}
+use Rattle.redo_types.specs.declared.undo.UndoRecord.{UndoRecord}
+use Rattle.undo_segment.specs.declared.fetch.Fetch.TheVariants.{Has, Reused}
+use Rattle.undo_segment.specs.Fetch.{found_at}
+use Rattle.board_slots.specs.Ring.{Rising, in_place}
+use Rattle.board_slots.specs.Views.{IsWritten}
+use Rattle.board_slots.proofs.Newest.{all_map, clash}
 
--- of one number there is one
-one-number : (t : Deed → Bool) (d : Deed) (written : List Deed) → Rising written → newest t written ≡ Some d → AllByRecursion (λ m. m.seq ≡ d.seq → m ≡ d) written
-one-number t d [] h e = tt
-one-number t d (m ∷ written) h e = here (t m) e (one-number t d written h.1)
+-- who stands in a place, and each one with its number is it
+record Stands (d : UndoRecord) (written : List UndoRecord) : Type 0 where
+  pub alone : AllByRecursion (λ (u : UndoRecord). u.seq ≡ d.seq → u ≡ d) written
+  pub below : (bound : ℕ) → AllByRecursion (λ (u : UndoRecord). u.seq < bound) written → d.seq < bound
+
+stands : (size place : ℕ) (d : UndoRecord) (written : List UndoRecord) → Rising written → in_place size place written ≡ Some d → Stands d written
+stands size place d [] h e = absurd (let bad : ◌≡◌ {A = Option UndoRecord} None (Some d) = e in cc)
+stands size place d (u ∷ written) h e = here ((u.seq - 1) % size == place) e (stands size place d written h.1)
   where
-    here : (b : Bool) → cond b (Some m) (newest t written) ≡ Some d → (newest t written ≡ Some d → AllByRecursion (λ m. m.seq ≡ d.seq → m ≡ d) written) → (m.seq ≡ d.seq → m ≡ d) × AllByRecursion (λ m. m.seq ≡ d.seq → m ≡ d) written
+    here : (t : Bool) → cond t (Some u) (in_place size place written) ≡ Some d → (in_place size place written ≡ Some d → Stands d written) → Stands d (u ∷ written)
     here true e ih =
-        let same : m ≡ d = cc in
-        ((λ f. same), all_map (λ o. o.seq < m.seq) (λ o. o.seq ≡ d.seq → o ≡ d) written (λ o lt f. (let g : m.seq ≡ d.seq = ap (λ (m : Deed). m.seq) same in absurd (omega arith))) h.0)
-    here false e ih = ((λ f. (let lt = newest-all (λ o. o.seq < m.seq) t d written h.0 e in absurd (omega arith))), ih e)
+        let same : u ≡ d = cc in
+        record {
+          alone = ((λ f. same), all_map (λ (o : UndoRecord). o.seq < u.seq) (λ (o : UndoRecord). o.seq ≡ d.seq → o ≡ d) written (λ o lt f. (let g : u.seq ≡ d.seq = ap (λ (u : UndoRecord). u.seq) same in absurd (omega arith))) h.0);
+          below = λ bound all. rw (sym same) all.0;
+        }
+    here false e ih =
+        let old = ih e in
+        record {
+          alone = ((λ f. (let lt = old.below u.seq h.0 in absurd (omega arith))), old.alone);
+          below = λ bound all. old.below bound all.1;
+        }
 
-pub ring-fetches : (size : ℕ) (written : List Deed) → Rising written → AllByRecursion (λ m. IsFetched m (fetch_in size written m.seq)) written
-ring-fetches size written h = all_numbers written (λ seq. found seq (newest (at_place size ((seq - 1) % size)) written) refl)
+-- some record stands in the place of one that was written
+some-stands : (size : ℕ) (written : List UndoRecord) → AllByRecursion (λ (u : UndoRecord). in_place size ((u.seq - 1) % size) written ≡ None → ⊥) written
+some-stands size [] = tt
+some-stands size (u ∷ written) =
+    ((λ e. (let bad : ◌≡◌ {A = Option UndoRecord} (Some u) None = rw (eq-eqb ((u.seq - 1) % size) ((u.seq - 1) % size) refl) at e in absurd (cc))),
+    all_map (λ (o : UndoRecord). in_place size ((o.seq - 1) % size) written ≡ None → ⊥) (λ (o : UndoRecord). in_place size ((o.seq - 1) % size) (u ∷ written) ≡ None → ⊥) written (λ o f e. here o ((u.seq - 1) % size == (o.seq - 1) % size) f e) (some-stands size written))
   where
-    all_numbers : (deeds : List Deed) → ((seq : ℕ) → AllByRecursion (λ m. m.seq ≡ seq → IsFetched m (fetch_in size written seq)) deeds) → AllByRecursion (λ m. IsFetched m (fetch_in size written m.seq)) deeds
-    all_numbers [] f = tt
-    all_numbers (m ∷ deeds) f = ((f m.seq).0 refl, all_numbers deeds (λ seq. (f seq).1))
+    here : (o : UndoRecord) (t : Bool) → (in_place size ((o.seq - 1) % size) written ≡ None → ⊥) → cond t (Some u) (in_place size ((o.seq - 1) % size) written) ≡ None → ⊥
+    here o true f e = absurd (let bad : ◌≡◌ {A = Option UndoRecord} (Some u) None = e in cc)
+    here o false f e = f e
 
-    all_of : {P : Deed → Type 0} (deeds : List Deed) → ((m : Deed) → P m) → AllByRecursion P deeds
-    all_of [] f = tt
-    all_of (m ∷ deeds) f = (f m, all_of deeds f)
+pub ring-holds : (size : ℕ) (written : List UndoRecord) → Rising written → AllByRecursion (λ (u : UndoRecord). IsWritten u (found_at u.seq (in_place size ((u.seq - 1) % size) written))) written
+ring-holds size written h = each written (some-stands size written) (λ seq. found seq (in_place size ((seq - 1) % size) written) refl)
+  where
+    each : (us : List UndoRecord) → AllByRecursion (λ (u : UndoRecord). in_place size ((u.seq - 1) % size) written ≡ None → ⊥) us
+        → ((seq : ℕ) → (in_place size ((seq - 1) % size) written ≡ None → ⊥) → AllByRecursion (λ (u : UndoRecord). u.seq ≡ seq → IsWritten u (found_at seq (in_place size ((seq - 1) % size) written))) us)
+        → AllByRecursion (λ (u : UndoRecord). IsWritten u (found_at u.seq (in_place size ((u.seq - 1) % size) written))) us
+    each [] some f = tt
+    each (u ∷ us) some f = ((f u.seq some.0).0 refl, each us some.1 (λ seq n. (f seq n).1))
 
-    found : (seq : ℕ) (o : Option Deed) → newest (at_place size ((seq - 1) % size)) written ≡ o → AllByRecursion (λ m. m.seq ≡ seq → IsFetched m (fetched_of seq o)) written
-    found seq None e = all_of written (λ m f. tt)
-    found seq (Some d) e = here (d.seq == seq) refl
+    found : (seq : ℕ) (o : Option UndoRecord) → in_place size ((seq - 1) % size) written ≡ o → (o ≡ None → ⊥) → AllByRecursion (λ (u : UndoRecord). u.seq ≡ seq → IsWritten u (found_at seq o)) written
+    found seq None e some = absurd (some refl)
+    found seq (Some d) e some = here (d.seq == seq) refl
       where
-        here : (b : Bool) → (d.seq == seq) ≡ b → AllByRecursion (λ m. m.seq ≡ seq → IsFetched m (cond b (Has (undo_of number d)) (Reused d.seq))) written
-        here true f = all_map (λ m. m.seq ≡ d.seq → m ≡ d) (λ m. m.seq ≡ seq → IsFetched m (Has (undo_of number d))) written (λ m g is. ap undo_of number (sym (g (is ∙ sym (eqb-true d.seq seq f))))) (one-number (at_place size ((seq - 1) % size)) d written h e)
-        here false f = all_of written (λ m f. tt)
+        here : (b : Bool) → (d.seq == seq) ≡ b → AllByRecursion (λ (u : UndoRecord). u.seq ≡ seq → IsWritten u (cond b (Has d) (Reused d.seq))) written
+        here true f = all_map (λ (u : UndoRecord). u.seq ≡ d.seq → u ≡ d) (λ (u : UndoRecord). u.seq ≡ seq → IsWritten u (Has d)) written (λ u g is. sym (g (is ∙ sym (eqb-true d.seq seq f)))) (stands size ((seq - 1) % size) d written h e).alone
+        here false f = all_map (λ (u : UndoRecord). u.seq ≡ d.seq → u ≡ d) (λ (u : UndoRecord). u.seq ≡ seq → IsWritten u (Reused d.seq)) written (λ u g is. tt) (stands size ((seq - 1) % size) d written h e).alone

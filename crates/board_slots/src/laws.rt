@@ -1,9 +1,13 @@
-ghost use Rattle.std.specs.Prelude.{ℕ, Option, None, Result, List, ◌∷◌, ◌≡◌, ◌≢◌, ◌||◌, ◌<◌, IfSome};
-ghost use Rattle.std.specs.List.{AllByRecursion};
+ghost use Rattle.std.specs.Prelude.{ℕ, Option, None, Result, List, ◌∷◌, ◌≡◌, ◌≢◌, ◌||◌, ◌<◌, ◌≤◌, ◌-◌, ◌%◌, ◌++◌, Bool, true, false, IfSome};
+ghost use Rattle.std.specs.List.{AllByRecursion, filter};
 ghost use Rattle.base_types.specs.declared.names.Xid.{Xid};
 ghost use Rattle.base_types.specs.declared.value.Value.{Value};
 ghost use Rattle.redo_types.specs.declared.blocks.ItlSlot.{ItlSlot};
 ghost use Rattle.block_image.specs.Block.{BlockContent};
+ghost use Rattle.redo_types.specs.declared.undo.TxnSlot.{TxnSlot};
+ghost use Rattle.redo_types.specs.declared.undo.UndoRecord.{UndoRecord};
+ghost use Rattle.undo_segment.specs.Fetch.{found_at};
+ghost use Rattle.undo_segment.specs.Look.{told_of};
 ghost use Rattle.undo_segment.specs.declared.fetch.Fetch.{Fetch};
 ghost use Rattle.undo_segment.specs.declared.look.Look.{Look};
 ghost use Rattle.txn_slots.specs.Own.{is_own};
@@ -12,11 +16,15 @@ ghost use Rattle.cr_copy.specs.declared.copy.Work.{Work};
 ghost use Rattle.cr_copy.specs.declared.made.Halt.{Halt};
 ghost use Rattle.cr_copy.specs.declared.made.Made.TheVariants.{Bad, Rows};
 ghost use Rattle.cr_copy.specs.Copy.{make, rounds};
-ghost use Rattle.board_slots.specs.Block.{Record, committed, content, stands};
+ghost use Rattle.board_slots.specs.Block.{Deed, Does, Record, committed, content, stands};
 ghost use Rattle.board_slots.specs.Images.{block_of, IsSeen};
 ghost use Rattle.board_slots.specs.Records.{May, AreMade, Sound};
-ghost use Rattle.board_slots.specs.Told.{ended_by, HasReason, IsTold};
-ghost use Rattle.board_slots.specs.Views.{ReaderFollows, value_at, view};
+ghost use Rattle.board_slots.specs.Told.{ended, ended_by, HasReason, IsLook, IsTold};
+ghost use Rattle.board_slots.specs.Decide.{RowIsFree};
+ghost use Rattle.board_slots.specs.Header.{end_in, IsSlotOf, table_slot, Turn, Turns};
+ghost use Rattle.board_slots.specs.Losses.{KeepsReasons};
+ghost use Rattle.board_slots.specs.Ring.{in_place, Rising};
+ghost use Rattle.board_slots.specs.Views.{IsWritten, ReaderFollows, undo_of, value_at, view};
 
 /// Each record that the rules make leaves a block that says what stands in it.
 pub fn each_record_keeps_a_block_sound()
@@ -56,4 +64,41 @@ pub fn copies_show_what_is_visible()
 pub fn copies_end()
     ensures { (round : List ItlSlot → Result (Option Pick) Halt) (fuel more last : ℕ) (work : Work) →
         last < fuel → last < more → rounds round fuel last work ≡ rounds round more last work }
+{}
+
+/// The reader's own changes stand over what had committed up to its SCN.
+pub fn readers_follow_commits()
+    ensures record_kept { (records : List Record) (r : Record) (s : ℕ) (me : Option Xid) → May records r →
+        ((m : Deed) → r ≡ Does m → is_own me m.xid ≡ true → RowIsFree records m.xid s m.row) →
+        ReaderFollows (committed records) s me (stands records) →
+        ReaderFollows (committed (r ∷ records)) s me (stands (r ∷ records)) }
+    ensures later { (past : Xid → Option ℕ) (s t : ℕ) (me : Option Xid) (deeds : List Deed) → s ≤ t →
+        ReaderFollows past s me deeds → ReaderFollows past t me deeds }
+    ensures none { (past : Xid → Option ℕ) (s : ℕ) (me : Option Xid) (deeds : List Deed) →
+        AllByRecursion (λ m. is_own me m.xid ≡ false) deeds → ReaderFollows past s me deeds }
+{}
+
+/// Headers of the image's moment or later ones tell of what stands in the image: who had committed there has that end,
+/// and an end is above all that stands of its transaction. In a ring of undo a place has the record that was written
+/// there, or a later one.
+pub fn later_moments_tell_of_an_image()
+    ensures headers { (number : ℕ) (there : List Record) (newer : Xid → List Record) (look : Xid → Look) (fetch : Xid → ℕ → Fetch) →
+        ((x : Xid) → AreMade (newer x ++ there)) →
+        ((x : Xid) → IsLook (ended (newer x ++ there) x) (look x)) →
+        AllByRecursion (λ m. IsWritten (undo_of number m) (fetch m.xid m.seq)) (stands there) →
+        AllByRecursion (IsTold number (committed there) (λ x. ended (newer x ++ there) x) look fetch) (stands there) }
+    ensures undo { (size : ℕ) (written : List UndoRecord) → Rising written →
+        AllByRecursion (λ (u : UndoRecord). IsWritten u (found_at u.seq (in_place size ((u.seq - 1) % size) written))) written }
+{}
+
+/// What a slot of a transaction table tells of a transaction is what became of it: open, its end, or a bound of it.
+pub fn headers_tell_ends()
+    ensures { (slot : TxnSlot) (turns : List Turn) (x : Xid) → Turns turns → IsSlotOf slot (table_slot turns) →
+        1 ≤ x.wrap → IsLook (end_in x.wrap turns) (told_of slot x) }
+{}
+
+/// A loss that keeps each kept record's reasons leaves a block that the rules made.
+pub fn losses_leave_what_the_rules_make()
+    ensures { (keep : Record → Bool) (records : List Record) → KeepsReasons keep records → AreMade records →
+        AreMade (filter keep records) }
 {}
