@@ -1,23 +1,38 @@
 -- What a change is decided on is what the rules ask.
 use Rattle.std.proofs.Common.{◌≡◌, ◌≢◌, ℕ, ◌<◌, ◌≤◌, Bool, true, false, cond, not, ◌==◌, List, [], ◌∷◌, refl, sym, ap, ◌∙◌, subst, arith, inl, inr, ◌⊎◌}
-use Rattle.std.specs.Prelude.{Option, Some, None, IsSomeAnd, IfSome, nat_lt}
+use Rattle.std.specs.Prelude.{Option, Some, None, Ok, IsSomeAnd, IfSome, is_some, if◌then◌else◌}
 use Rattle.std.specs.List.{AllByRecursion}
-use Rattle.std.proofs.lemmas.Bool.{eqb-true}
+use Rattle.std.proofs.lemmas.Bool.{eqb-false, eqb-true}
 use Rattle.base_types.specs.declared.names.Xid.{Xid}
 use Rattle.base_types.specs.declared.value.Value.{Value}
 use Rattle.redo_types.specs.declared.blocks.ItlSlot.{ItlSlot}
 use Rattle.journal.specs.Past.{same_xid}
 use Rattle.journal.proofs.XidLemmas.{same_xid-refl, same_xid-true}
+use Rattle.cr_copy.specs.Named.{IsNamed}
+use Rattle.txn_slots.specs.Choice.{MayTake}
 use Rattle.board_slots.specs.Block.{Deed, newest, on_row, in_slot, by, slot_of, Image, Record, Stage, Open, Over, stage, commit_in, committed, content, stands}
-use Rattle.board_slots.specs.Slots.{IsUnder, IsFair, Orderly, IsLocked, IsFree, IsChosen}
-use Rattle.board_slots.specs.Copy.{Candidate, Unfetched, ReaderFollows, Look, Unlooked, Active, Ended, ReusedBelow, is_own, four}
+use Rattle.board_slots.specs.Slots.{IsUnder, IsFair, Orderly, IsLocked, IsFree, IsChosen, Shows}
 use Rattle.board_slots.specs.Records.{MayDo, Sound}
-use Rattle.board_slots.specs.Decide.{Mine, lock_by, lock_row, GoesOn, Take, NoItl, SlotNeeds, first_slot, is_own_slot, is_unused, end_of, first_unlooked, Ending, ending, earlier, least, take_ended, take_unused, take_own, choose_slot, Tells, MayDecide, RowIsFree, decided}
+use Rattle.block_image.specs.Block.{BlockContent, row_at, slot_at}
+use Rattle.undo_segment.specs.declared.fetch.Fetch.TheVariants.{Unfetched}
+use Rattle.undo_segment.specs.declared.look.Look.{Look}
+use Rattle.undo_segment.specs.declared.look.Look.TheVariants.{Active, Ended, ReusedBelow, Unlooked}
+use Rattle.txn_slots.specs.declared.choice.SlotAnswer.TheVariants.{Take}
+use Rattle.txn_slots.specs.declared.lock.LockAnswer.TheVariants.{Mine}
+use Rattle.txn_slots.specs.Choice.{choose_slot, end_of, is_own_slot, is_unused}
+use Rattle.txn_slots.specs.Lock.{lock_by, lock_named, lock_row, locker, named_by}
+use Rattle.txn_slots.specs.Own.{is_own}
+use Rattle.board_slots.specs.Decide.{decided, GoesOn, MayDecide, RowIsFree, Tells}
+use Rattle.board_slots.specs.Images.{IsSeen}
+use Rattle.board_slots.specs.Views.{ReaderFollows}
+use Rattle.board_slots.proofs.Choosing.{Chosen, chosen}
+use Rattle.board_slots.proofs.Rule.{four}
+use Rattle.board_slots.proofs.Works.{lock-low}
 use Rattle.board_slots.proofs.Newest.{clash, same_xid-sym, all_map, all_both, newest-all, newest-none}
 use Rattle.board_slots.proofs.Removal.{row-shares}
 use Rattle.board_slots.proofs.Held.{fair-all}
 use Rattle.board_slots.proofs.Copies.{row-seen}
-use Rattle.board_slots.proofs.Rounds.{no-answer, four-all}
+use Rattle.board_slots.proofs.Rounds.{no-answer}
 
 -- who has an end, and something that stands, has committed by then
 pub ended-committed : (records : List Record) (x : Xid) (l : Look) (e : ℕ) → stage x records ≢ Over None → Tells records x l → end_of l ≡ Some e → IsSomeAnd (committed records x) (λ c. c ≤ e)
@@ -36,37 +51,20 @@ ended-committed records x (ReusedBelow d found) e h t is = here (stage x records
     here (Over None) h o c = absurd (h refl)
     here (Over (Some c)) h o le = let eq : d ≡ e = cc in omega arith
 
-pub first-slot : (test : ItlSlot → Bool) (slot : ℕ → ItlSlot) (ks : List ℕ) (P : ℕ → Type 0) (k : ℕ) → AllByRecursion P ks → first_slot test slot ks ≡ Some k → (test (slot k) ≡ true) × P k
-first-slot test slot [] P k all e = no-answer ℕ k e
-first-slot test slot (j ∷ ks) P k all e = here (test (slot j)) refl e (first-slot test slot ks P k all.1)
-  where
-    here : (t : Bool) → test (slot j) ≡ t → cond t (Some j) (first_slot test slot ks) ≡ Some k → (first_slot test slot ks ≡ Some k → (test (slot k) ≡ true) × P k) → (test (slot k) ≡ true) × P k
-    here true f e ih = let same : j ≡ k = cc in rw (sym same) (f, all.0)
-    here false f e ih = ih e
+-- the transaction that a row's lock byte names
+abbrev pub named_of : Image → ℕ → Option Xid
+named_of image r = if image.lock r == 0 then None else Some (image.slot (image.lock r)).xid
 
-pub no-slot : (test : ItlSlot → Bool) (slot : ℕ → ItlSlot) (ks : List ℕ) → first_slot test slot ks ≡ None → AllByRecursion (λ k. test (slot k) ≡ false) ks
-no-slot test slot [] e = tt
-no-slot test slot (j ∷ ks) e = here (test (slot j)) refl e (no-slot test slot ks)
+-- the locker of a row, as the rules see it
+pub locker-is : (committed : Xid → Option ℕ) (block : BlockContent) (image : Image) (deeds : List Deed) → IsSeen block image → Orderly committed deeds → Shows committed image deeds → (r : ℕ) → r < 8 → locker block r ≡ named_of image r
+locker-is committed block image deeds seen h shows r lt = rw (seen.lock r lt) (here (image.lock r == 0) refl)
   where
-    here : (t : Bool) → test (slot j) ≡ t → cond t (Some j) (first_slot test slot ks) ≡ None → (first_slot test slot ks ≡ None → AllByRecursion (λ k. test (slot k) ≡ false) ks) → (test (slot j) ≡ false) × AllByRecursion (λ k. test (slot k) ≡ false) ks
-    here true f e ih = no-answer ℕ j (sym e)
-    here false f e ih = (f, ih e)
+    low : image.lock r ≤ 4
+    low = lock-low committed image.scn image.slot (image.lock r) r deeds h (newest (on_row r) deeds) refl (shows.locks r)
 
-pub least-ends : (look : Xid → Look) (slot : ℕ → ItlSlot) (ks : List ℕ) (P : ℕ → Type 0) (a : Ending) → AllByRecursion P ks → least look slot ks ≡ Some a → (end_of (look (slot a.itl).xid) ≡ Some a.e) × P a.itl
-least-ends look slot [] P a all e = no-answer Ending a e
-least-ends look slot (j ∷ ks) P a all e = here (end_of (look (slot j).xid)) refl (least look slot ks) e (least-ends look slot ks P a all.1)
-  where
-    own : (d : ℕ) → end_of (look (slot j).xid) ≡ Some d → ◌≡◌ {A = Option Ending} (Some (record { itl = j; e = d })) (Some a) → (end_of (look (slot a.itl).xid) ≡ Some a.e) × P a.itl
-    own d f e = let same : ◌≡◌ {A = Ending} (record { itl = j; e = d }) a = cc in subst (λ (a : Ending). (end_of (look (slot a.itl).xid) ≡ Some a.e) × P a.itl) same (f, all.0)
-
-    here : (o : Option ℕ) → end_of (look (slot j).xid) ≡ o → (b : Option Ending) → earlier (ending j o) b ≡ Some a → (b ≡ Some a → (end_of (look (slot a.itl).xid) ≡ Some a.e) × P a.itl) → (end_of (look (slot a.itl).xid) ≡ Some a.e) × P a.itl
-    here None f b e ih = ih e
-    here (Some d) f None e ih = own d f e
-    here (Some d) f (Some b) e ih = go (nat_lt b.e d) e
-      where
-        go : (t : Bool) → cond t (Some b) (Some (record { itl = j; e = d })) ≡ Some a → (end_of (look (slot a.itl).xid) ≡ Some a.e) × P a.itl
-        go true e = ih e
-        go false e = own d f e
+    here : (t : Bool) → (image.lock r == 0) ≡ t → cond t None (Some (slot_at block.itl (image.lock r)).xid) ≡ cond t None (Some (image.slot (image.lock r)).xid)
+    here true e = refl
+    here false e = ap (λ s. Some s.xid) (seen.slot (image.lock r) (let off = eqb-false (image.lock r) 0 e in omega arith) low)
 
 module _ (records : List Record) (sound : Sound records) (me : Option Xid) (x : Xid) (look : Xid → Look) (s scn : ℕ) (may : MayDecide records me x look s scn) where
   abbrev image : Image
@@ -95,8 +93,11 @@ module _ (records : List Record) (sound : Sound records) (me : Option Xid) (x : 
   below None d e le l = l
   below (Some c) d e le l = omega (arith, le, l)
 
+  pub goes-on : (block : BlockContent) → IsSeen block image → (r : ℕ) → r < 8 → GoesOn s (lock_row me look block r) → GoesOn s (lock_named me look image.scn (named_of image r))
+  goes-on block seen r lt goes = rw (seen.scn, locker-is (committed records) block image deeds seen sound.orderly sound.shows r lt) at goes
+
   -- the newest on a row that a statement may change is the own one, or committed up to s
-  pub newest-free : (r : ℕ) → GoesOn s image.scn (lock_row me look image r) → (n : Deed) → newest (on_row r) deeds ≡ Some n → (n.xid ≡ x) ⊎ IsSomeAnd (committed records n.xid) (λ c. c ≤ s)
+  pub newest-free : (r : ℕ) → GoesOn s (lock_named me look image.scn (named_of image r)) → (n : Deed) → newest (on_row r) deeds ≡ Some n → (n.xid ≡ x) ⊎ IsSomeAnd (committed records n.xid) (λ c. c ≤ s)
   newest-free r goes n e = locked (subst (IsLocked (committed records) image.scn image.slot (image.lock r)) e (sound.shows.locks r))
     where
       first : (n.itl == 0) ≡ false
@@ -106,17 +107,17 @@ module _ (records : List Record) (sound : Sound records) (me : Option Xid) (x : 
           test false e = refl
           test true f = let z : n.itl ≡ 0 = eqb-true n.itl 0 f in let a = (newest-all (IsFair (committed records)) (on_row r) n deeds (fair-all (committed records) deeds sound.orderly) e).placed.first in absurd (omega arith)
 
-      by_look : (l : Look) → look n.xid ≡ l → GoesOn s image.scn (lock_by n.xid l) → IsSomeAnd (committed records n.xid) (λ c. c ≤ s)
+      by_look : (l : Look) → look n.xid ≡ l → GoesOn s (lock_by n.xid l) → IsSomeAnd (committed records n.xid) (λ c. c ≤ s)
       by_look Unlooked f g = absurd g
       by_look Active f g = absurd g
       by_look (Ended d) f g = lower (committed records n.xid) d s g (newest-all (λ m. (e : ℕ) → end_of (look m.xid) ≡ Some e → IsSomeAnd (committed records m.xid) (λ c. c ≤ e) × (e < scn)) (on_row r) n deeds ends e d (ap end_of f)).0
-      by_look (ReusedBelow d found) f g = lower (committed records n.xid) d s g (newest-all (λ m. (e : ℕ) → end_of (look m.xid) ≡ Some e → IsSomeAnd (committed records m.xid) (λ c. c ≤ e) × (e < scn)) (on_row r) n deeds ends e d (ap end_of f)).0
+      by_look (ReusedBelow d now) f g = lower (committed records n.xid) d s g (newest-all (λ m. (e : ℕ) → end_of (look m.xid) ≡ Some e → IsSomeAnd (committed records m.xid) (λ c. c ≤ e) × (e < scn)) (on_row r) n deeds ends e d (ap end_of f)).0
 
       locked : IsLocked (committed records) image.scn image.slot (image.lock r) (Some n) → (n.xid ≡ x) ⊎ IsSomeAnd (committed records n.xid) (λ c. c ≤ s)
       locked (inl l) = inr (below (committed records n.xid) image.scn s (rw l.0 at goes) l.1)
       locked (inr l) = own (is_own me n.xid) refl (rw (l.0, first, l.1) at goes)
         where
-          own : (t : Bool) → is_own me n.xid ≡ t → GoesOn s image.scn (cond t Mine (lock_by n.xid (look n.xid))) → (n.xid ≡ x) ⊎ IsSomeAnd (committed records n.xid) (λ c. c ≤ s)
+          own : (t : Bool) → is_own me n.xid ≡ t → GoesOn s (cond t Mine (lock_by n.xid (look n.xid))) → (n.xid ≡ x) ⊎ IsSomeAnd (committed records n.xid) (λ c. c ≤ s)
           own true f g = inl (sym (own-is n.xid f))
           own false f g = inr (by_look (look n.xid) refl g)
 
@@ -139,14 +140,14 @@ module _ (records : List Record) (sound : Sound records) (me : Option Xid) (x : 
           one o u on false g = inr (row-shares (committed records) r m o f on u g)
 
   -- so all on it are
-  pub row-free : (r : ℕ) → GoesOn s image.scn (lock_row me look image r) → ReaderFollows (committed records) s me deeds → RowIsFree records x s r
+  pub row-free : (r : ℕ) → GoesOn s (lock_named me look image.scn (named_of image r)) → ReaderFollows (committed records) s me deeds → RowIsFree records x s r
   row-free r goes follows = here (newest (on_row r) deeds) refl
     where
       own : (n : Deed) → newest (on_row r) deeds ≡ Some n → n.xid ≡ x → RowIsFree records x s r
       own n e is = elim may.mine [
         | inl m ↦ all_map (λ o. on_row r o ≡ true → (by x o ≡ true) ⊎ IsSomeAnd (committed records o.xid) (λ c. c ≤ s)) (λ m. on_row r m ≡ true → (m.xid ≡ x) ⊎ IsSomeAnd (committed records m.xid) (λ c. c ≤ s)) deeds
             (λ o f on. elim (f on) [ inl b ↦ inl (sym (same_xid-true x o.xid b)) | inr l ↦ inr l ])
-            (row-seen (committed records) s me (λ y. false) (λ y. Candidate) (λ y q. Unfetched) r x n deeds e (rw is (same_xid-refl x)) (subst (λ o. ReaderFollows (committed records) s o deeds) m follows))
+            (row-seen (committed records) s me (λ y. false) (λ y. Ok true) 0 (λ y q. Unfetched) r x n deeds e (rw is (same_xid-refl x)) (subst (λ o. ReaderFollows (committed records) s o deeds) m follows))
         | inr new ↦ clash (by x n) (rw is (same_xid-refl x)) (newest-all (λ m. by x m ≡ false) (on_row r) n deeds (newest-none (by x) deeds new.1) e)
       ]
 
@@ -173,7 +174,7 @@ module _ (records : List Record) (sound : Sound records) (me : Option Xid) (x : 
   over (Some c) l = (let a = may.started in omega (arith, l))
 
   -- a row that a statement may change is free by its lock byte
-  pub lock-free : (r : ℕ) → GoesOn s image.scn (lock_row me look image r) → IsFree (committed records) image r x scn
+  pub lock-free : (r : ℕ) → GoesOn s (lock_named me look image.scn (named_of image r)) → IsFree (committed records) image r x scn
   lock-free r goes = here (newest (on_row r) deeds) refl (sound.shows.locks r)
     where
       here : (o : Option Deed) → newest (on_row r) deeds ≡ o → IsLocked (committed records) image.scn image.slot (image.lock r) o → IsFree (committed records) image r x scn
@@ -204,22 +205,25 @@ module _ (records : List Record) (sound : Sound records) (me : Option Xid) (x : 
   abbrev IsTaken : ℕ → Bool → Type 0
   IsTaken k fresh = IsChosen (committed records) image k x scn × ((1 ≤ k) × (k ≤ 4)) × (fresh ≡ not (same_xid (image.slot k).xid x))
 
-  four-in : AllByRecursion (λ k. (1 ≤ k) × (k ≤ 4)) four
-  four-in = ((omega arith, omega arith), ((omega arith, omega arith), ((omega arith, omega arith), ((omega arith, omega arith), tt))))
-
   -- the slot that is taken is one that the rules let it take
-  pub slot-chosen : (k : ℕ) (fresh : Bool) → choose_slot me look image.slot ≡ Take k fresh → IsTaken k fresh
-  slot-chosen k fresh e = here (first_slot (is_own_slot me) image.slot four) refl (first_slot is_unused image.slot four) refl (first_unlooked look image.slot four) (least look image.slot four) refl e
+  pub slot-chosen : (block : BlockContent) → IsSeen block image → (k : ℕ) (fresh : Bool) → choose_slot me look block.itl ≡ Take k fresh → IsTaken k fresh
+  slot-chosen block seen k fresh e = here fresh refl c.may c.none
     where
-      own : AllByRecursion (λ k. is_own_slot me (image.slot k) ≡ false) four → (j : ℕ) → 1 ≤ j → j ≤ 4 → same_xid x (image.slot j).xid ≡ false
-      own none = four-all (λ j. same_xid x (image.slot j).xid ≡ false) (all_map (λ k. is_own_slot me (image.slot k) ≡ false) (λ j. same_xid x (image.slot j).xid ≡ false) four (λ j off. names j off) none)
+      c : Chosen me look block.itl seen.four_slots k fresh
+      c = chosen me look block.itl seen.four_slots k fresh e
 
-      anew : (k : ℕ) → ((j : ℕ) → 1 ≤ j → j ≤ 4 → same_xid x (image.slot j).xid ≡ false) → (1 ≤ k) × (k ≤ 4) → (((image.slot k).xid.wrap ≡ 0) ⊎ IsSomeAnd (committed records (image.slot k).xid) (λ c. c < scn)) → IsTaken k true
-      anew k none r h = (inr (none, h), r, rw (same_xid-sym (image.slot k).xid x, none k r.0 r.1) refl)
+      slot_is : (j : ℕ) → 1 ≤ j → j ≤ 4 → slot_at block.itl j ≡ image.slot j
+      slot_is = seen.slot
 
-      ended : (k e : ℕ) → end_of (look (image.slot k).xid) ≡ Some e → (o : Option Deed) → newest (in_slot k) deeds ≡ o → ((image.slot k).xid.wrap ≡ 0) ⊎ IsSomeAnd (committed records (image.slot k).xid) (λ c. c < scn)
-      ended k e f None g = inl (ap (λ s. s.xid.wrap) (sound.shows.slots k) ∙ ap (λ o. (slot_of o).xid.wrap) g)
-      ended k e f (Some q) g =
+      at : slot_at block.itl k ≡ image.slot k
+      at = slot_is k c.first c.last
+
+      anew : ((j : ℕ) → 1 ≤ j → j ≤ 4 → same_xid x (image.slot j).xid ≡ false) → (((image.slot k).xid.wrap ≡ 0) ⊎ IsSomeAnd (committed records (image.slot k).xid) (λ c. c < scn)) → IsTaken k true
+      anew none h = (inr (none, h), (c.first, c.last), rw (same_xid-sym (image.slot k).xid x, none k c.first c.last) refl)
+
+      ended : (e : ℕ) → end_of (look (image.slot k).xid) ≡ Some e → (o : Option Deed) → newest (in_slot k) deeds ≡ o → ((image.slot k).xid.wrap ≡ 0) ⊎ IsSomeAnd (committed records (image.slot k).xid) (λ c. c < scn)
+      ended e f None g = inl (ap (λ s. s.xid.wrap) (sound.shows.slots k) ∙ ap (λ o. (slot_of o).xid.wrap) g)
+      ended e f (Some q) g =
           let is : (image.slot k).xid ≡ q.xid = ap (λ s. s.xid) (sound.shows.slots k) ∙ ap (λ o. (slot_of o).xid) g in
           let l = newest-all (λ m. (e : ℕ) → end_of (look m.xid) ≡ Some e → IsSomeAnd (committed records m.xid) (λ c. c ≤ e) × (e < scn)) (in_slot k) q deeds ends g e (ap (λ y. end_of (look y)) (sym is) ∙ f) in
           inr (subst (λ y. IsSomeAnd (committed records y) (λ c. c < scn)) (sym is) (up (committed records q.xid) l.0 l.1))
@@ -228,46 +232,35 @@ module _ (records : List Record) (sound : Sound records) (me : Option Xid) (x : 
           up None l lt = l
           up (Some c) l lt = omega (arith, l, lt)
 
-      here : (a : Option ℕ) → first_slot (is_own_slot me) image.slot four ≡ a → (b : Option ℕ) → first_slot is_unused image.slot four ≡ b → (u : Option Xid) → (l : Option Ending) → least look image.slot four ≡ l
-          → take_own a (take_unused b (take_ended u l)) ≡ Take k fresh → IsTaken k fresh
-      here (Some j) f b g u l h e =
-          let k_is : j ≡ k = cc in
-          let fresh_is : false ≡ fresh = cc in
-          let at = first-slot (is_own_slot me) image.slot four (λ k. (1 ≤ k) × (k ≤ 4)) j four-in f in
-          let is : x ≡ (image.slot j).xid = own-is (image.slot j).xid at.0 in
-          subst (λ k. IsTaken k fresh) k_is (subst (IsTaken j) fresh_is (inl (sym is), at.1, rw (sym is, same_xid-refl x) refl))
-      here None f (Some j) g u l h e =
-          let k_is : j ≡ k = cc in
-          let fresh_is : true ≡ fresh = cc in
-          let at = first-slot is_unused image.slot four (λ k. (1 ≤ k) × (k ≤ 4)) j four-in g in
-          subst (λ k. IsTaken k fresh) k_is (subst (IsTaken j) fresh_is (anew j (own (no-slot (is_own_slot me) image.slot four f)) at.1 (inl (eqb-true (image.slot j).xid.wrap 0 at.0))))
-      here None f None g (Some y) l h e = absurd (let bad : SlotNeeds y ≡ Take k fresh = e in cc)
-      here None f None g None None h e = absurd (let bad : NoItl ≡ Take k fresh = e in cc)
-      here None f None g None (Some a) h e =
-          let k_is : a.itl ≡ k = cc in
-          let fresh_is : true ≡ fresh = cc in
-          let at = least-ends look image.slot four (λ k. (1 ≤ k) × (k ≤ 4)) a four-in h in
-          subst (λ k. IsTaken k fresh) k_is (subst (IsTaken a.itl) fresh_is (anew a.itl (own (no-slot (is_own_slot me) image.slot four f)) at.1 (ended a.itl a.e at.0 (newest (in_slot a.itl) deeds) refl)))
+      has-end : (o : Option ℕ) → is_some o ≡ true → (e : ℕ) × (o ≡ Some e)
+      has-end None h = clash false h refl
+      has-end (Some e) h = (e, refl)
+
+      here : (f : Bool) → fresh ≡ f → MayTake me look f (slot_at block.itl k) → (f ≡ true → (j : ℕ) → 1 ≤ j → j ≤ 4 → is_own_slot me (slot_at block.itl j) ≡ false) → IsTaken k fresh
+      here false f may none =
+          let is : x ≡ (image.slot k).xid = own-is (image.slot k).xid (ap (λ s. is_own me s.xid) (sym at) ∙ may) in
+          rw f (inl (sym is), (c.first, c.last), rw (sym is, same_xid-refl x) refl)
+      here true f may none =
+          rw f (anew (λ j low high. names j (ap (λ s. is_own me s.xid) (sym (slot_is j low high)) ∙ none refl j low high)) (elim may.1 [
+            | inl u ↦ inl (ap (λ s. s.xid.wrap) (sym at) ∙ eqb-true (slot_at block.itl k).xid.wrap 0 u)
+            | inr h ↦ (let e = has-end (end_of (look (slot_at block.itl k).xid)) h in ended e.0 (ap (λ s. end_of (look s.xid)) (sym at) ∙ e.1) (newest (in_slot k) deeds) refl)
+          ]))
 
   -- so the record that is decided is one that the rules make
-  pub decides : (seq r k : ℕ) (fresh puts : Bool) (value : Value) → GoesOn s image.scn (lock_row me look image r) → choose_slot me look image.slot ≡ Take k fresh
-      → MayDo records (decided image x seq scn r k puts value)
-  decides seq r k fresh puts value goes takes =
-      let taken = slot-chosen k fresh takes in
+  pub decides : (block : BlockContent) → IsSeen block image → (prev seq r k : ℕ) (fresh puts : Bool) (value : Value) → r < 8 → IsNamed (record { xid = x; seq = seq }) → GoesOn s (lock_row me look block r) → choose_slot me look block.itl ≡ Take k fresh
+      → MayDo records (decided image x prev seq scn r k puts value)
+  decides block seen prev seq r k fresh puts value lt named goes takes =
+      let taken = slot-chosen block seen k fresh takes in
       record {
         goes_on = may.goes_on;
         made = record {
           goes_on = ap commit_in may.goes_on;
-          first = taken.1.0;
-          last = taken.1.1;
-          wrap = may.wrap;
+          placed = record { row = lt; first = taken.1.0; last = taken.1.1; wrap = may.wrap; named = named };
           scn = may.up;
           version = refl;
-          old = refl;
-          slot = refl;
-          mine = refl;
+          undo = record { old = refl; slot = refl; mine = refl };
           value = λ e. rw e refl;
-          free = lock-free r goes;
+          free = lock-free r (goes-on block seen r lt goes);
           chosen = taken.0;
         };
       }

@@ -13,6 +13,7 @@ pub mod Shows
 pub mod Seen
 pub mod Keeps
 pub mod Readers
+pub mod Choosing
 pub mod Deciding
 pub mod Follows
 pub mod Moments

@@ -1,5 +1,5 @@
 -- What refuses a change.
-use Rattle.std.proofs.Common.{◌≡◌, ℕ, ◌≤◌, Bool, true, false, cond, ◌==◌, ltb, List, [], ◌∷◌, refl, sym, ap, ◌∙◌, subst, inl, inr}
+use Rattle.std.proofs.Common.{◌≡◌, ℕ, ◌<◌, ◌≤◌, Bool, true, false, cond, ◌==◌, ltb, List, [], ◌∷◌, refl, sym, ap, ◌∙◌, subst, inl, inr}
 use Rattle.std.specs.Prelude.{Option, Some, None, IsSomeAnd}
 use Rattle.std.specs.List.{AllByRecursion}
 use Rattle.std.proofs.lemmas.Bool.{eqb-true}
@@ -9,13 +9,23 @@ use Rattle.journal.specs.Past.{same_xid}
 use Rattle.journal.proofs.XidLemmas.{same_xid-refl}
 use Rattle.board_slots.specs.Block.{Deed, newest, on_row, in_slot, slot_of, Image, Record, committed, content, stands}
 use Rattle.board_slots.specs.Slots.{IsLocked}
-use Rattle.board_slots.specs.Copy.{Look, Unlooked, Active, Ended, ReusedBelow, is_own, four}
 use Rattle.board_slots.specs.Records.{Sound}
-use Rattle.board_slots.specs.Decide.{Free, Mine, Held, LockNeeds, lock_by, lock_of, lock_row, Take, NoItl, SlotNeeds, first_slot, is_own_slot, is_unused, end_of, unlooked, first_unlooked, Ending, ending, earlier, least, take_ended, take_unused, take_own, choose_slot}
+use Rattle.block_image.specs.Block.{BlockContent, slot_at}
+use Rattle.undo_segment.specs.declared.look.Look.{Look}
+use Rattle.undo_segment.specs.declared.look.Look.TheVariants.{Active, Ended, ReusedBelow, Unlooked}
+use Rattle.txn_slots.specs.declared.choice.SlotAnswer.TheVariants.{NoItl}
+use Rattle.txn_slots.specs.declared.lock.LockAnswer.TheVariants.{Free, Held, Mine, Need}
+use Rattle.txn_slots.specs.declared.lock.Released.TheVariants.{Below, Exactly}
+use Rattle.txn_slots.specs.declared.wanted.Wanted.TheVariants.{Head}
+use Rattle.txn_slots.specs.Choice.{choose_slot, is_own_slot, is_unused}
+use Rattle.txn_slots.specs.Lock.{lock_by, lock_named, lock_row}
+use Rattle.txn_slots.specs.Own.{is_own}
+use Rattle.board_slots.specs.Decide.{IsBusy, IsTakenBy}
+use Rattle.board_slots.specs.Images.{IsSeen}
+use Rattle.board_slots.proofs.Choosing.{Refused, refused}
 use Rattle.board_slots.proofs.Newest.{clash, newest-all, newest-passes}
 use Rattle.board_slots.proofs.Making.{one-slot}
-use Rattle.board_slots.proofs.Rounds.{no-answer, or-none, four-all}
-use Rattle.board_slots.proofs.Deciding.{no-slot}
+use Rattle.board_slots.proofs.Deciding.{locker-is, named_of}
 
 module _ (records : List Record) (sound : Sound records) (me : Option Xid) (look : Xid → Look) where
   abbrev image : Image
@@ -25,17 +35,14 @@ module _ (records : List Record) (sound : Sound records) (me : Option Xid) (look
   deeds = stands records
 
   -- who is told to hold a row is another, active by its header, and the newest that stands there is its
-  abbrev pub IsBusy : ℕ → Xid → Type 0
-  IsBusy r y = (look y ≡ Active) × (is_own me y ≡ false) × IsSomeAnd (newest (on_row r) deeds) (λ n. n.xid ≡ y)
-
-  pub held : (r : ℕ) (y : Xid) → lock_row me look image r ≡ Held y → IsBusy r y
-  held r y e = here (image.lock r == 0) refl e
+  held-named : (r : ℕ) (y : Xid) → lock_named me look image.scn (named_of image r) ≡ Held y → IsBusy records me look r y
+  held-named r y e = here (image.lock r == 0) refl e
     where
       by_look : (z : Xid) (l : Look) → look z ≡ l → lock_by z l ≡ Held y → (z ≡ y) × (look z ≡ Active)
-      by_look z Unlooked f e = absurd (let bad : LockNeeds z ≡ Held y = e in cc)
+      by_look z Unlooked f e = absurd (let bad : Need (Head z.seg) ≡ Held y = e in cc)
       by_look z Active f e = ((cc), f)
-      by_look z (Ended d) f e = absurd (let bad : Free (Some d) ≡ Held y = e in cc)
-      by_look z (ReusedBelow d found) f e = absurd (let bad : Free (Some d) ≡ Held y = e in cc)
+      by_look z (Ended d) f e = absurd (let bad : Free (Exactly z d) ≡ Held y = e in cc)
+      by_look z (ReusedBelow d now) f e = absurd (let bad : Free (Below d) ≡ Held y = e in cc)
 
       owner : (z : Xid) (o : Bool) → is_own me z ≡ o → cond o Mine (lock_by z (look z)) ≡ Held y → (z ≡ y) × (look z ≡ Active) × (is_own me z ≡ false)
       owner z true f e = absurd (let bad : Mine ≡ Held y = e in cc)
@@ -46,59 +53,28 @@ module _ (records : List Record) (sound : Sound records) (me : Option Xid) (look
       top off (Some n) (inl l) = clash (image.lock r == 0) (rw l.0 refl) off
       top off (Some n) (inr l) = sym l.1 ∙ ap (λ k. (image.slot k).xid) (sym l.0)
 
-      here : (t : Bool) → (image.lock r == 0) ≡ t → cond t (Free None) (lock_of me look (image.slot (image.lock r)).xid) ≡ Held y → IsBusy r y
-      here true f e = absurd (let bad : Free None ≡ Held y = e in cc)
+      here : (t : Bool) → (image.lock r == 0) ≡ t → lock_named me look image.scn (cond t None (Some (image.slot (image.lock r)).xid)) ≡ Held y → IsBusy records me look r y
+      here true f e = absurd (let bad : Free (Below image.scn) ≡ Held y = e in cc)
       here false f e =
           let o = owner (image.slot (image.lock r)).xid (is_own me (image.slot (image.lock r)).xid) refl e in
           (rw (sym o.0) o.1, rw (sym o.0) o.2, subst (λ z. IsSomeAnd (newest (on_row r) deeds) (λ n. n.xid ≡ z)) o.0 (top f (newest (on_row r) deeds) (sound.shows.locks r)))
 
+  pub held : (block : BlockContent) → IsSeen block image → (r : ℕ) (y : Xid) → r < 8 → lock_row me look block r ≡ Held y → IsBusy records me look r y
+  held block seen r y lt e = held-named r y (sym (rw (seen.scn, locker-is (committed records) block image deeds seen sound.orderly sound.shows r lt) refl) ∙ e)
+
   -- where no slot can be taken, all four are others', active by their headers, each with something that stands there
-  abbrev pub IsTakenBy : ℕ → Type 0
-  IsTakenBy k = (look (image.slot k).xid ≡ Active) × (is_own me (image.slot k).xid ≡ false) × IsSomeAnd (newest (in_slot k) deeds) (λ n. n.xid ≡ (image.slot k).xid)
-
-  seen-none : (slot : ℕ → ItlSlot) (ks : List ℕ) → first_unlooked look slot ks ≡ None → AllByRecursion (λ k. unlooked (slot k).xid (look (slot k).xid) ≡ None) ks
-  seen-none slot [] e = tt
-  seen-none slot (k ∷ ks) e = let both = or-none (unlooked (slot k).xid (look (slot k).xid)) (first_unlooked look slot ks) e in (both.0, seen-none slot ks both.1)
-
-  earlier-none : (a b : Option Ending) → earlier a b ≡ None → (a ≡ None) × (b ≡ None)
-  earlier-none None b e = (refl, e)
-  earlier-none (Some a) None e = no-answer Ending a (sym e)
-  earlier-none (Some a) (Some b) e = here (ltb b.e a.e) e
+  pub no-itl : (block : BlockContent) → IsSeen block image → (holders : List Xid) → choose_slot me look block.itl ≡ NoItl holders → (k : ℕ) → 1 ≤ k → k ≤ 4 → IsTakenBy records me look k (slot_at block.itl k).xid
+  no-itl block seen holders e k low high = (c.active, c.other, there (newest (in_slot k) deeds) refl)
     where
-      here : (t : Bool) → cond t (Some b) (Some a) ≡ None → (Some a ≡ None) × (Some b ≡ None)
-      here true e = no-answer Ending b (sym e)
-      here false e = no-answer Ending a (sym e)
+      c : Refused me look block.itl seen.four_slots k
+      c = refused me look block.itl seen.four_slots holders e k low high
 
-  least-none : (slot : ℕ → ItlSlot) (ks : List ℕ) → least look slot ks ≡ None → AllByRecursion (λ k. ending k (end_of (look (slot k).xid)) ≡ None) ks
-  least-none slot [] e = tt
-  least-none slot (k ∷ ks) e = let both = earlier-none (ending k (end_of (look (slot k).xid))) (least look slot ks) e in (both.0, least-none slot ks both.1)
+      at : slot_at block.itl k ≡ image.slot k
+      at = seen.slot k low high
 
-  active : (k : ℕ) (x : Xid) (l : Look) → unlooked x l ≡ None → ending k (end_of l) ≡ None → l ≡ Active
-  active k x Unlooked u e = no-answer Xid x (sym u)
-  active k x Active u e = refl
-  active k x (Ended d) u e = no-answer Ending (record { itl = k; e = d }) (sym e)
-  active k x (ReusedBelow d found) u e = no-answer Ending (record { itl = k; e = d }) (sym e)
-
-  pub no-itl : choose_slot me look image.slot ≡ NoItl → (k : ℕ) → 1 ≤ k → k ≤ 4 → IsTakenBy k
-  no-itl e k low high = here (first_slot (is_own_slot me) image.slot four) refl (first_slot is_unused image.slot four) refl (first_unlooked look image.slot four) refl (least look image.slot four) refl e
-    where
-      there : (o : Option Deed) → newest (in_slot k) deeds ≡ o → is_unused (image.slot k) ≡ false → IsSomeAnd o (λ n. n.xid ≡ (image.slot k).xid)
-      there None f used = clash (is_unused (image.slot k)) (rw (sound.shows.slots k, f) refl) used
-      there (Some n) f used = sym (ap (λ s. s.xid) (sound.shows.slots k) ∙ ap (λ o. (slot_of o).xid) f)
-
-      here : (a : Option ℕ) → first_slot (is_own_slot me) image.slot four ≡ a → (b : Option ℕ) → first_slot is_unused image.slot four ≡ b → (u : Option Xid) → first_unlooked look image.slot four ≡ u → (l : Option Ending) → least look image.slot four ≡ l
-          → take_own a (take_unused b (take_ended u l)) ≡ NoItl → IsTakenBy k
-      here (Some j) f b g u i l h e = absurd (let bad : Take j false ≡ NoItl = e in cc)
-      here None f (Some j) g u i l h e = absurd (let bad : Take j true ≡ NoItl = e in cc)
-      here None f None g (Some y) i l h e = absurd (let bad : SlotNeeds y ≡ NoItl = e in cc)
-      here None f None g None i (Some a) h e = absurd (let bad : Take a.itl true ≡ NoItl = e in cc)
-      here None f None g None i None h e = (
-        active k (image.slot k).xid (look (image.slot k).xid)
-            (four-all (λ k. unlooked (image.slot k).xid (look (image.slot k).xid) ≡ None) (seen-none image.slot four i) k low high)
-            (four-all (λ k. ending k (end_of (look (image.slot k).xid)) ≡ None) (least-none image.slot four h) k low high),
-        four-all (λ k. is_own_slot me (image.slot k) ≡ false) (no-slot (is_own_slot me) image.slot four f) k low high,
-        there (newest (in_slot k) deeds) refl (four-all (λ k. is_unused (image.slot k) ≡ false) (no-slot is_unused image.slot four g) k low high),
-      )
+      there : (o : Option Deed) → newest (in_slot k) deeds ≡ o → IsSomeAnd o (λ n. n.xid ≡ (slot_at block.itl k).xid)
+      there None f = clash (is_unused (slot_at block.itl k)) (rw (at, sound.shows.slots k, f) refl) c.used
+      there (Some n) f = sym (ap (λ s. s.xid) (at ∙ sound.shows.slots k) ∙ ap (λ o. (slot_of o).xid) f)
 
   -- and no two are one
   pub slots-differ : (j k : ℕ) → is_unused (image.slot j) ≡ false → (image.slot j).xid ≡ (image.slot k).xid → j ≡ k

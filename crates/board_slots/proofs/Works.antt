@@ -65,7 +65,7 @@ shown-at me block k [] r lt = absurd (omega arith)
 shown-at me block k (v ∷ values) zero lt = let same : k ≡ k + 0 = omega arith in ap (λ (q : ℕ). row_shown me block q v) same
 shown-at me block k (v ∷ values) (suc r) lt = let same : k + 1 + r ≡ k + suc r = omega arith in shown-at me block (k + 1) values r (omega (arith, lt)) ∙ ap (λ (q : ℕ). row_shown me block q (value_at values r)) same
 
-lock-low : (committed : Xid → Option ℕ) (scn : ℕ) (slot : ℕ → ItlSlot) (lock : ℕ) (r : ℕ) (deeds : List Deed) → Orderly committed deeds → (o : Option Deed) → newest (on_row r) deeds ≡ o → IsLocked committed scn slot lock o → lock ≤ 4
+pub lock-low : (committed : Xid → Option ℕ) (scn : ℕ) (slot : ℕ → ItlSlot) (lock : ℕ) (r : ℕ) (deeds : List Deed) → Orderly committed deeds → (o : Option Deed) → newest (on_row r) deeds ≡ o → IsLocked committed scn slot lock o → lock ≤ 4
 lock-low committed scn slot lock r deeds h None e l = omega arith
 lock-low committed scn slot lock r deeds h (Some m) e (inl l) = let z = l.0 in omega arith
 lock-low committed scn slot lock r deeds h (Some m) e (inr l) = let z = l.0 in let high = (newest-all (IsFair committed) (on_row r) m deeds (fair-all committed deeds h) e).placed.last in omega arith

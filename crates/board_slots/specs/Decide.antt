@@ -1,15 +1,16 @@
 -- What a change of a row is decided on, and the deed that is decided.
-use Rattle.std.specs.Prelude.{ℕ, ◌+◌, ◌<◌, ◌≤◌, ◌≡◌, ◌≢◌, ◌⊎◌, if◌then◌else◌, Bool, true, List, Option, Some, None, IsSomeAnd, IfSome}
+use Rattle.std.specs.Prelude.{ℕ, ◌+◌, ◌<◌, ◌≤◌, ◌≡◌, ◌≢◌, ◌⊎◌, if◌then◌else◌, Bool, true, false, List, Option, Some, None, IsSomeAnd, IfSome}
 use Rattle.std.specs.List.{AllByRecursion}
 use Rattle.base_types.specs.declared.names.Xid.{Xid}
 use Rattle.base_types.specs.declared.value.Value.{Value}
 use Rattle.undo_segment.specs.declared.look.Look.{Look}
-use Rattle.undo_segment.specs.declared.look.Look.TheVariants.{Ended, ReusedBelow}
+use Rattle.undo_segment.specs.declared.look.Look.TheVariants.{Active, Ended, ReusedBelow}
 use Rattle.txn_slots.specs.declared.lock.LockAnswer.{LockAnswer}
 use Rattle.txn_slots.specs.declared.lock.LockAnswer.TheVariants.{Free, Held, Mine, Need}
 use Rattle.txn_slots.specs.Choice.{end_of}
 use Rattle.txn_slots.specs.Lock.{released_at}
-use Rattle.board_slots.specs.Block.{Deed, newest, on_row, by, Image, Record, Open, stage, committed, content, stands, held_by}
+use Rattle.txn_slots.specs.Own.{is_own}
+use Rattle.board_slots.specs.Block.{Deed, newest, in_slot, on_row, by, Image, Record, Open, stage, committed, content, stands, held_by}
 
 -- A statement at s goes on where the row is its own transaction's, or was let go at s or before.
 abbrev pub GoesOn : ℕ → LockAnswer → Type 0
@@ -60,3 +61,11 @@ decided image x prev seq scn r k puts value =
       old_itl = image.slot k;
       mine = held_by x image r;
     }
+
+-- Who is told to hold a row is another transaction, active by its header, and the newest deed on the row is its.
+abbrev pub IsBusy : List Record → Option Xid → (Xid → Look) → ℕ → Xid → Type 0
+IsBusy records me look r y = (look y ≡ Active) × (is_own me y ≡ false) × IsSomeAnd (newest (on_row r) (stands records)) (λ n. n.xid ≡ y)
+
+-- A slot is another transaction's, active by its header, and the newest deed in the slot is its.
+abbrev pub IsTakenBy : List Record → Option Xid → (Xid → Look) → ℕ → Xid → Type 0
+IsTakenBy records me look k y = (look y ≡ Active) × (is_own me y ≡ false) × IsSomeAnd (newest (in_slot k) (stands records)) (λ n. n.xid ≡ y)

@@ -1,26 +1,32 @@
-ghost use Rattle.std.specs.Prelude.{ℕ, Option, None, Result, List, ◌∷◌, ◌≡◌, ◌≢◌, ◌||◌, ◌<◌, ◌≤◌, ◌-◌, ◌%◌, ◌++◌, Bool, true, false, IfSome};
+ghost use Rattle.std.specs.Prelude.{ℕ, Option, None, Result, List, ◌∷◌, ◌≡◌, ◌≢◌, ◌||◌, ◌<◌, ◌≤◌, ◌-◌, ◌%◌, ◌++◌, not, Bool, true, false, IfSome};
 ghost use Rattle.std.specs.List.{AllByRecursion, filter};
 ghost use Rattle.base_types.specs.declared.names.Xid.{Xid};
 ghost use Rattle.base_types.specs.declared.value.Value.{Value};
 ghost use Rattle.redo_types.specs.declared.blocks.ItlSlot.{ItlSlot};
-ghost use Rattle.block_image.specs.Block.{BlockContent};
+ghost use Rattle.block_image.specs.Block.{BlockContent, slot_at};
 ghost use Rattle.redo_types.specs.declared.undo.TxnSlot.{TxnSlot};
 ghost use Rattle.redo_types.specs.declared.undo.UndoRecord.{UndoRecord};
 ghost use Rattle.undo_segment.specs.Fetch.{found_at};
 ghost use Rattle.undo_segment.specs.Look.{told_of};
 ghost use Rattle.undo_segment.specs.declared.fetch.Fetch.{Fetch};
 ghost use Rattle.undo_segment.specs.declared.look.Look.{Look};
+ghost use Rattle.journal.specs.Past.{same_xid};
+ghost use Rattle.txn_slots.specs.declared.choice.SlotAnswer.TheVariants.{NoItl, Take};
+ghost use Rattle.txn_slots.specs.declared.lock.LockAnswer.TheVariants.{Held};
+ghost use Rattle.txn_slots.specs.Choice.{choose_slot, is_unused};
+ghost use Rattle.txn_slots.specs.Lock.{lock_row};
 ghost use Rattle.txn_slots.specs.Own.{is_own};
+ghost use Rattle.cr_copy.specs.Named.{IsNamed};
 ghost use Rattle.cr_copy.specs.declared.copy.Pick.{Pick};
 ghost use Rattle.cr_copy.specs.declared.copy.Work.{Work};
 ghost use Rattle.cr_copy.specs.declared.made.Halt.{Halt};
 ghost use Rattle.cr_copy.specs.declared.made.Made.TheVariants.{Bad, Rows};
 ghost use Rattle.cr_copy.specs.Copy.{make, rounds};
-ghost use Rattle.board_slots.specs.Block.{Deed, Does, Record, committed, content, stands};
+ghost use Rattle.board_slots.specs.Block.{Deed, Does, Record, committed, content, stands, value_by};
 ghost use Rattle.board_slots.specs.Images.{block_of, IsSeen};
-ghost use Rattle.board_slots.specs.Records.{May, AreMade, Sound};
+ghost use Rattle.board_slots.specs.Records.{May, MayDo, AreMade, Sound};
 ghost use Rattle.board_slots.specs.Told.{ended, ended_by, HasReason, IsLook, IsTold};
-ghost use Rattle.board_slots.specs.Decide.{RowIsFree};
+ghost use Rattle.board_slots.specs.Decide.{decided, GoesOn, IsBusy, IsTakenBy, MayDecide, NewestIsFree, RowIsFree};
 ghost use Rattle.board_slots.specs.Header.{end_in, IsSlotOf, table_slot, Turn, Turns};
 ghost use Rattle.board_slots.specs.Losses.{KeepsReasons};
 ghost use Rattle.board_slots.specs.Ring.{in_place, Rising};
@@ -101,4 +107,39 @@ pub fn headers_tell_ends()
 pub fn losses_leave_what_the_rules_make()
     ensures { (keep : Record → Bool) (records : List Record) → KeepsReasons keep records → AreMade records →
         AreMade (filter keep records) }
+{}
+
+/// A statement at s goes on at a row that is its own or was let go up to s. What is decided there is a deed that the
+/// rules make; the newest on the row is the transaction's own or has committed up to s; and the value that is found is
+/// what stands there.
+pub fn decisions_are_made_by_the_rules()
+    ensures record_made { (records : List Record) (block : BlockContent) → IsSeen block (content records) → (me : Option Xid) (x : Xid)
+        (look : Xid → Look) (s scn prev seq r k : ℕ) (fresh puts : Bool) (value : Value) → Sound records →
+        MayDecide records me x look s scn → r < 8 → IsNamed (record { xid = x; seq = seq }) →
+        GoesOn s (lock_row me look block r) → choose_slot me look block.itl ≡ Take k fresh →
+        MayDo records (decided (content records) x prev seq scn r k puts value) }
+    ensures slot_anew { (records : List Record) (block : BlockContent) → IsSeen block (content records) → (me : Option Xid) (x : Xid)
+        (look : Xid → Look) (s scn k : ℕ) (fresh : Bool) → Sound records → MayDecide records me x look s scn →
+        choose_slot me look block.itl ≡ Take k fresh → fresh ≡ not (same_xid ((content records).slot k).xid x) }
+    ensures row_free { (records : List Record) (block : BlockContent) → IsSeen block (content records) → (me : Option Xid) (x : Xid)
+        (look : Xid → Look) (s scn r : ℕ) → Sound records → MayDecide records me x look s scn → r < 8 →
+        GoesOn s (lock_row me look block r) → ReaderFollows (committed records) s me (stands records) →
+        RowIsFree records x s r }
+    ensures newest_free { (records : List Record) (block : BlockContent) → IsSeen block (content records) → (me : Option Xid) (x : Xid)
+        (look : Xid → Look) (s scn r : ℕ) → Sound records → MayDecide records me x look s scn → r < 8 →
+        GoesOn s (lock_row me look block r) → NewestIsFree records x s r }
+    ensures found { (records : List Record) (r : ℕ) → Sound records → (content records).value r ≡ value_by r (stands records) }
+{}
+
+/// Who is told to hold a row is another transaction, active by its header, and stands newest on the row. Where no slot
+/// can be taken, each of the four is of another one that is active by its header and stands newest in it, and no two are
+/// of one.
+pub fn refusals_name_who_stands()
+    ensures busy { (records : List Record) (block : BlockContent) → IsSeen block (content records) → (me : Option Xid) (look : Xid → Look)
+        (r : ℕ) (y : Xid) → Sound records → r < 8 → lock_row me look block r ≡ Held y → IsBusy records me look r y }
+    ensures no_itl { (records : List Record) (block : BlockContent) → IsSeen block (content records) → (me : Option Xid)
+        (look : Xid → Look) (holders : List Xid) (k : ℕ) → Sound records → choose_slot me look block.itl ≡ NoItl holders →
+        1 ≤ k → k ≤ 4 → IsTakenBy records me look k (slot_at block.itl k).xid }
+    ensures differ { (records : List Record) (j k : ℕ) → Sound records → is_unused ((content records).slot j) ≡ false →
+        ((content records).slot j).xid ≡ ((content records).slot k).xid → j ≡ k }
 {}
