@@ -21,3 +21,4 @@ pub mod Rings
 pub mod Headers
 pub mod Refusing
 pub mod Lost
+pub mod AtHand

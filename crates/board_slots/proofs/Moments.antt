@@ -115,10 +115,10 @@ each_own Q (m ∷ deeds) f = ((f m.xid).0 (same_xid-refl m.xid), each_own Q deed
 
 -- headers of later moments, one for each transaction's segment, and undo of a later moment
 pub told-later : (number : ℕ) (there : List Record) (newer : Xid → List Record) (look : Xid → Look) (fetch : Xid → ℕ → Fetch) → ((x : Xid) → AreMade (newer x ++ there))
-    → ((x : Xid) → IsLook (ended (newer x ++ there) x) (look x)) → AllByRecursion (λ m. IsWritten (undo_of number m) (fetch m.xid m.seq)) (stands there)
+    → AllByRecursion (λ m. IsLook (ended (newer m.xid ++ there) m.xid) (look m.xid)) (stands there) → AllByRecursion (λ m. IsWritten (undo_of number m) (fetch m.xid m.seq)) (stands there)
     → AllByRecursion (IsTold number (committed there) (λ x. ended (newer x ++ there) x) look fetch) (stands there)
 told-later number there newer look fetch made looks fetched =
-    all_both (λ m. IfSome (ended (newer m.xid ++ there) m.xid) (λ e. m.scn < e)) (λ m. IsWritten (undo_of number m) (fetch m.xid m.seq)) (IsTold number (committed there) (λ x. ended (newer x ++ there) x) look fetch) (stands there)
-    (λ m above f. record { stays = λ c e. commit-stays m.xid c (newer m.xid) there (made m.xid) e; above = above; looks = looks m.xid; fetched = f })
+    all_both (λ m. IfSome (ended (newer m.xid ++ there) m.xid) (λ e. m.scn < e)) (λ m. IsLook (ended (newer m.xid ++ there) m.xid) (look m.xid) × IsWritten (undo_of number m) (fetch m.xid m.seq)) (IsTold number (committed there) (λ x. ended (newer x ++ there) x) look fetch) (stands there)
+    (λ m above f. record { stays = λ c e. commit-stays m.xid c (newer m.xid) there (made m.xid) e; above = above; looks = f.0; fetched = f.1 })
     (each_own (λ x m. IfSome (ended (newer x ++ there) x) (λ e. m.scn < e)) (stands there) (λ x. end-over x (newer x) there (made x)))
-    fetched
+    (all_both (λ m. IsLook (ended (newer m.xid ++ there) m.xid) (look m.xid)) (λ m. IsWritten (undo_of number m) (fetch m.xid m.seq)) (λ m. IsLook (ended (newer m.xid ++ there) m.xid) (look m.xid) × IsWritten (undo_of number m) (fetch m.xid m.seq)) (stands there) (λ m a b. (a, b)) looks fetched)

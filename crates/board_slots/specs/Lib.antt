@@ -6,5 +6,6 @@ pub mod Told
 pub mod Images
 pub mod Header
 pub mod Ring
+pub mod Hand
 pub mod Decide
 pub mod Losses

@@ -7,7 +7,9 @@ ghost use Rattle.block_image.specs.Block.{BlockContent, slot_at};
 ghost use Rattle.redo_types.specs.declared.undo.TxnSlot.{TxnSlot};
 ghost use Rattle.redo_types.specs.declared.undo.UndoRecord.{UndoRecord};
 ghost use Rattle.undo_segment.specs.Fetch.{found_at};
+ghost use Rattle.undo_segment.specs.Handed.{HandedState};
 ghost use Rattle.undo_segment.specs.Look.{told_of};
+ghost use Rattle.undo_segment.specs.Segment.{fetch, look, SegmentState};
 ghost use Rattle.undo_segment.specs.declared.fetch.Fetch.{Fetch};
 ghost use Rattle.undo_segment.specs.declared.look.Look.{Look};
 ghost use Rattle.journal.specs.Past.{same_xid};
@@ -23,6 +25,7 @@ ghost use Rattle.cr_copy.specs.declared.made.Halt.{Halt};
 ghost use Rattle.cr_copy.specs.declared.made.Made.TheVariants.{Bad, Rows};
 ghost use Rattle.cr_copy.specs.Copy.{make, rounds};
 ghost use Rattle.board_slots.specs.Block.{Deed, Does, Record, committed, content, stands, value_by};
+ghost use Rattle.board_slots.specs.Hand.{IsAtHand};
 ghost use Rattle.board_slots.specs.Images.{block_of, IsSeen};
 ghost use Rattle.board_slots.specs.Records.{May, MayDo, AreMade, Sound};
 ghost use Rattle.board_slots.specs.Told.{ended, ended_by, HasReason, IsLook, IsTold};
@@ -90,11 +93,27 @@ pub fn readers_follow_commits()
 pub fn later_moments_tell_of_an_image()
     ensures headers { (number : ℕ) (there : List Record) (newer : Xid → List Record) (look : Xid → Look) (fetch : Xid → ℕ → Fetch) →
         ((x : Xid) → AreMade (newer x ++ there)) →
-        ((x : Xid) → IsLook (ended (newer x ++ there) x) (look x)) →
+        AllByRecursion (λ m. IsLook (ended (newer m.xid ++ there) m.xid) (look m.xid)) (stands there) →
         AllByRecursion (λ m. IsWritten (undo_of number m) (fetch m.xid m.seq)) (stands there) →
         AllByRecursion (IsTold number (committed there) (λ x. ended (newer x ++ there) x) look fetch) (stands there) }
     ensures undo { (size : ℕ) (written : List UndoRecord) → Rising written →
         AllByRecursion (λ (u : UndoRecord). IsWritten u (found_at u.seq (in_place size ((u.seq - 1) % size) written))) written }
+{}
+
+/// The headers and undo blocks at hand, each of the image's moment or a later one, tell a reader what it is to be told.
+/// So the copy that the program makes of the block with them shows what is visible.
+pub fn what_is_at_hand_tells_readers()
+    ensures told { (number : ℕ) (there : List Record) (newer : Xid → List Record) (own : SegmentState) (handed : HandedState) →
+        AreMade there → ((x : Xid) → AreMade (newer x ++ there)) →
+        AllByRecursion (IsAtHand own handed number (λ x. ended (newer x ++ there) x)) (stands there) →
+        AllByRecursion (IsTold number (committed there) (λ x. ended (newer x ++ there) x) (look own handed) (fetch own handed)) (stands there) }
+    ensures rows { (number : ℕ) (there : List Record) (newer : Xid → List Record) (own : SegmentState) (handed : HandedState) →
+        AreMade there → ((x : Xid) → AreMade (newer x ++ there)) →
+        AllByRecursion (IsAtHand own handed number (λ x. ended (newer x ++ there) x)) (stands there) →
+        (s : ℕ) (me : Option Xid) → IfSome me (λ x. committed there x ≡ None) →
+        ReaderFollows (committed there) s me (stands there) → (rows : List Value) →
+        make s me (look own handed) (fetch own handed) (block_of number there) ≡ Rows rows → (r : ℕ) → r < 8 →
+        value_at rows r ≡ view (λ x. is_own me x || ended_by s (λ x. ended (newer x ++ there) x) x) (stands there) r }
 {}
 
 /// What a slot of a transaction table tells of a transaction is what became of it: open, its end, or a bound of it.
