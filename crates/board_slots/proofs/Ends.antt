@@ -104,7 +104,7 @@ module _ (committed : Xid → Option ℕ) (s : ℕ) (me : Option Xid) (visible :
     rounds-view zero last w rest deeds is left out e = absurd (let bad : ◌≡◌ {A = Result Work Halt} (Err Bad) (Ok out) = e in cc)
     rounds-view (suc fuel) last w rest deeds is left out e =
         here (heads_of rest) refl (undos_of rest) refl (best_of rest) refl
-            (sym (ap (λ r. goes_on (λ p. rounds (round s me look fetch number) fuel (p.undo.version - 1) (copy.taken p w)) w (falling last r)) (round-of w rest is)) ∙ e) (rounds-view fuel)
+        (sym (ap (λ r. goes_on (λ p. rounds (round s me look fetch number) fuel (p.undo.version - 1) (copy.taken p w)) w (falling last r)) (round-of w rest is)) ∙ e) (rounds-view fuel)
       where
         go : Pick → Result Work Halt
         go p = rounds (round s me look fetch number) fuel (p.undo.version - 1) (copy.taken p w)
@@ -117,8 +117,11 @@ module _ (committed : Xid → Option ℕ) (s : ℕ) (me : Option Xid) (visible :
         here None f None g None i e ih =
             let same : w ≡ out = cc in
             let stays = left-stays committed s me visible class_of number fetch all rest deeds left (halts-none (λ k. head_halt class_of (rest.slot k)) four f) (halts-none (λ k. undo_halt class_of number fetch k (rest.slot k)) four g) i in
-            subst IsView same (is.eight_rows, λ r lt. row-shown committed block image all seen h shows me rest (value_at w.rows r) r lt (is.value r lt)
-                ∙ shown committed s me visible class_of number fetch image all h shows fits reader follows rest deeds left stays r)
+            subst IsView same (
+              is.eight_rows,
+              λ r lt. row-shown committed block image all seen h shows me rest (value_at w.rows r) r lt (is.value r lt)
+                  ∙ shown committed s me visible class_of number fetch image all h shows fits reader follows rest deeds left stays r,
+            )
         here None f None g (Some p) i e ih = falls (nat_le 1 p.undo.version) (nat_le p.undo.version last) e
           where
             x : Next all w rest deeds p

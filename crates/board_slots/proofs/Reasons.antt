@@ -152,7 +152,7 @@ module _ (s : ℕ) (me : Option Xid) (look : Xid → Look) (number : ℕ) (fetch
     rounds-stop zero last w rest deeds is left low lt a e = absurd (omega (arith, lt))
     rounds-stop (suc fuel) last w rest deeds is left low lt a e =
         here (heads_of committed s me visible look number fetch rest) refl (undos_of committed s me visible look number fetch rest) refl (best_of committed s me visible look number fetch rest) refl
-            (sym (ap (λ r. goes_on (λ p. rounds (round s me look fetch number) fuel (p.undo.version - 1) (copy.taken p w)) w (falling last r)) (round-of committed s me visible look number fetch w rest is)) ∙ e) (rounds-stop fuel)
+        (sym (ap (λ r. goes_on (λ p. rounds (round s me look fetch number) fuel (p.undo.version - 1) (copy.taken p w)) w (falling last r)) (round-of committed s me visible look number fetch w rest is)) ∙ e) (rounds-stop fuel)
       where
         go : Pick → Result Work Halt
         go p = rounds (round s me look fetch number) fuel (p.undo.version - 1) (copy.taken p w)

@@ -36,9 +36,10 @@ stands size place d (u ∷ written) h e = here ((u.seq - 1) % size == place) e (
 -- some record stands in the place of one that was written
 some-stands : (size : ℕ) (written : List UndoRecord) → AllByRecursion (λ (u : UndoRecord). in_place size ((u.seq - 1) % size) written ≡ None → ⊥) written
 some-stands size [] = tt
-some-stands size (u ∷ written) =
-    ((λ e. (let bad : ◌≡◌ {A = Option UndoRecord} (Some u) None = rw (eq-eqb ((u.seq - 1) % size) ((u.seq - 1) % size) refl) at e in absurd (cc))),
-    all_map (λ (o : UndoRecord). in_place size ((o.seq - 1) % size) written ≡ None → ⊥) (λ (o : UndoRecord). in_place size ((o.seq - 1) % size) (u ∷ written) ≡ None → ⊥) written (λ o f e. here o ((u.seq - 1) % size == (o.seq - 1) % size) f e) (some-stands size written))
+some-stands size (u ∷ written) = (
+  (λ e. (let bad : ◌≡◌ {A = Option UndoRecord} (Some u) None = rw (eq-eqb ((u.seq - 1) % size) ((u.seq - 1) % size) refl) at e in absurd (cc))),
+  all_map (λ (o : UndoRecord). in_place size ((o.seq - 1) % size) written ≡ None → ⊥) (λ (o : UndoRecord). in_place size ((o.seq - 1) % size) (u ∷ written) ≡ None → ⊥) written (λ o f e. here o ((u.seq - 1) % size == (o.seq - 1) % size) f e) (some-stands size written),
+)
   where
     here : (o : UndoRecord) (t : Bool) → (in_place size ((o.seq - 1) % size) written ≡ None → ⊥) → cond t (Some u) (in_place size ((o.seq - 1) % size) written) ≡ None → ⊥
     here o true f e = absurd (let bad : ◌≡◌ {A = Option UndoRecord} (Some u) None = e in cc)

@@ -113,7 +113,7 @@ module _ (s : ℕ) (me : Option Xid) (look : Xid → Look) (fetch : Xid → ℕ 
   of_four : (a b c d : Result Bool Halt) (e f g h : Result Pick Halt)
       → after_heads (halt_or a (halt_or b (halt_or c (halt_or d None)))) (joined (picked a e) (joined (picked b f) (joined (picked c g) (joined (picked d h) (Ok None)))))
       ≡ outcome (or_else (or_else (halt_of a) (or_else (halt_of b) (or_else (halt_of c) (or_else (halt_of d) None)))) (or_else (undo_halt_of a e) (or_else (undo_halt_of b f) (or_else (undo_halt_of c g) (or_else (undo_halt_of d h) None)))))
-          (higher (pick_of a e) (higher (pick_of b f) (higher (pick_of c g) (higher (pick_of d h) None))))
+      (higher (pick_of a e) (higher (pick_of b f) (higher (pick_of c g) (higher (pick_of d h) None))))
   of_four a b c d e f g h =
       ap (λ o. after_heads o (joined (picked a e) (joined (picked b f) (joined (picked c g) (joined (picked d h) (Ok None)))))) heads
       ∙ (ap (λ r. after_heads hs r) picks ∙ after-is hs us ps)

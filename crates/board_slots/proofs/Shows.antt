@@ -67,7 +67,7 @@ module _ (records : List Record) (made : AreMade records) (block : BlockContent)
       here (Ok out) f e =
           let same : rows_shown me block 0 out.rows ≡ rows = cc in
           let is : IsView past s me (ended_by s ended) look number fetch block image (stands records) seen sound.orderly sound.shows fits reader follows out = rounds-view past s me (ended_by s ended) look number fetch block image (stands records) seen sound.orderly sound.shows fits reader follows
-              (suc block.front.version) block.front.version (work_of block) begin (stands records) (left-first block image seen) left out f in
+          (suc block.front.version) block.front.version (work_of block) begin (stands records) (left-first block image seen) left out f in
           let zero_is : 0 + r ≡ r = omega arith in
           rw (sym same) (shown-at me block 0 out.rows r (let eight = is.0 in omega (arith, lt)) ∙ (ap (λ (q : ℕ). row_shown me block q (value_at out.rows r)) zero_is ∙ is.1 r lt))
 
