@@ -1,0 +1,6 @@
+//! What the engine decides of a change is what the rules of slots let it do.
+#![tactic(auto)]
+
+mod laws;
+
+pub use laws::{decided_records_are_deeds, decided_steps_back_are_made_by_the_rules};
