@@ -1,23 +1,23 @@
 -- What is at hand of a deed tells of it.
-use Rattle.std.proofs.Common.{◌≡◌, ℕ, ◌-◌, ◌%◌, ◌<◌, ◌≤◌, ◌||◌, List, [], ◌∷◌, ◌++◌, length, get_or, refl, sym, subst, arith}
+use Rattle.std.proofs.Common.{◌≡◌, ℕ, ◌-◌, ◌%◌, ◌<◌, ◌≤◌, ◌||◌, List, [], ◌∷◌, ◌++◌, length, get_or, subst, arith}
 use Rattle.std.specs.Prelude.{Option, Some, None, IfSome, zero, suc}
 use Rattle.std.specs.List.{AllByRecursion, Contains}
 use Rattle.base_types.specs.declared.names.Xid.{Xid}
 use Rattle.base_types.specs.declared.value.Value.{Value}
 use Rattle.redo_types.specs.declared.undo.UndoRecord.{UndoRecord}
 use Rattle.undo_image.specs.Header.{HeaderContent}
-use Rattle.undo_image.specs.UndoBlock.{record_at, UndoContent}
+use Rattle.undo_image.specs.UndoBlock.{UndoContent}
 use Rattle.undo_segment.specs.Fetch.{fetch_in, found_at}
 use Rattle.undo_segment.specs.Handed.{HandedState}
-use Rattle.undo_segment.specs.Look.{look_in, told_of}
+use Rattle.undo_segment.specs.Look.{look_in}
 use Rattle.undo_segment.specs.Segment.{fetch, header_for, look, SegmentState, undo_block_for}
 use Rattle.txn_slots.specs.Own.{is_own}
 use Rattle.cr_copy.specs.declared.made.Made.TheVariants.{Rows}
 use Rattle.cr_copy.specs.Copy.{make}
-use Rattle.board_slots.specs.Block.{committed, content, Deed, Record, stands}
+use Rattle.board_slots.specs.Block.{committed, Record, stands}
 use Rattle.board_slots.specs.Hand.{BlockHolds, HeaderTells, IsAtHand}
 use Rattle.board_slots.specs.Images.{block_of}
-use Rattle.board_slots.specs.Records.{AreMade}
+use Rattle.board_slots.specs.Reads.{ended_later, MayRead, MayReadWith}
 use Rattle.board_slots.specs.Ring.{in_place}
 use Rattle.board_slots.specs.Slots.{IsFair}
 use Rattle.board_slots.specs.Told.{ended, ended_by, IsLook, IsTold}
@@ -47,19 +47,19 @@ block-holds : (size : ℕ) (u : UndoRecord) (o : Option UndoContent) → IfSome 
 block-holds size u None h = tt
 block-holds size u (Some block) h = rw h.place (all-contained (λ (u : UndoRecord). IsWritten u (found_at u.seq (in_place size ((u.seq - 1) % size) h.written))) h.written u (ring-holds size h.written h.rises) h.there)
 
-module _ (number : ℕ) (there : List Record) (newer : Xid → List Record) (own : SegmentState) (handed : HandedState) (made : AreMade there) (later : (x : Xid) → AreMade (newer x ++ there))
-    (hand : AllByRecursion (IsAtHand own handed number (λ x. ended (newer x ++ there) x)) (stands there)) where
-  pub told-at-hand : AllByRecursion (IsTold number (committed there) (λ x. ended (newer x ++ there) x) (look own handed) (fetch own handed)) (stands there)
-  told-at-hand =
-      told-later number there newer (look own handed) (fetch own handed) later
-      (all_both (IsFair (committed there)) (IsAtHand own handed number (λ x. ended (newer x ++ there) x)) (λ m. IsLook (ended (newer m.xid ++ there) m.xid) (look own handed m.xid)) (stands there)
+module _ (own : SegmentState) (handed : HandedState) (number : ℕ) (newer : Xid → List Record) (there : List Record) (me : Option Xid) where
+  told-at-hand : MayReadWith own handed number newer there me → AllByRecursion (IsTold number (committed there) (ended_later newer there) (look own handed) (fetch own handed)) (stands there)
+  told-at-hand may =
+      told-later number there newer (look own handed) (fetch own handed) may.later
+      (all_both (IsFair (committed there)) (IsAtHand own handed number (ended_later newer there)) (λ m. IsLook (ended (newer m.xid ++ there) m.xid) (look own handed m.xid)) (stands there)
       (λ m fair h. head-tells m.xid (ended (newer m.xid ++ there) m.xid) (header_for own handed m.xid.seg) fair.placed.wrap h.head)
-      (fair-all (committed there) (stands there) (all-sound there made).orderly) hand)
-      (all_map (IsAtHand own handed number (λ x. ended (newer x ++ there) x)) (λ m. IsWritten (undo_of number m) (fetch own handed m.xid m.seq)) (stands there)
-      (λ m h. block-holds own.layout.undo (undo_of number m) (undo_block_for own handed m.xid.seg m.seq) h.undo) hand)
+      (fair-all (committed there) (stands there) (all-sound there may.made).orderly) may.hand)
+      (all_map (IsAtHand own handed number (ended_later newer there)) (λ m. IsWritten (undo_of number m) (fetch own handed m.xid m.seq)) (stands there)
+      (λ m h. block-holds own.layout.undo (undo_of number m) (undo_block_for own handed m.xid.seg m.seq) h.undo) may.hand)
 
-  pub shows-at-hand : (s : ℕ) (me : Option Xid) → IfSome me (λ x. committed there x ≡ None) → ReaderFollows (committed there) s me (stands there) → (rows : List Value)
-      → make s me (look own handed) (fetch own handed) (block_of number there) ≡ Rows rows → (r : ℕ) → r < 8 → value_at rows r ≡ view (λ x. is_own me x || ended_by s (λ x. ended (newer x ++ there) x) x) (stands there) r
-  shows-at-hand s me reader follows rows e r lt =
-      copies-show there made (block_of number there) (blocks-seen number there made) s me (λ x. ended (newer x ++ there) x) (look own handed) (fetch own handed) reader
-      (rw (blocks-numbered number there) told-at-hand) follows rows e r lt
+  pub may-read : MayReadWith own handed number newer there me → MayRead there (block_of number there) me (ended_later newer there) (look own handed) (fetch own handed)
+  may-read may = record { made = may.made; seen = blocks-seen number there may.made; open_there = may.open_there; told = rw (blocks-numbered number there) (told-at-hand may) }
+
+  pub shows-at-hand : (s : ℕ) → MayReadWith own handed number newer there me → ReaderFollows (committed there) s me (stands there) → (rows : List Value)
+      → make s me (look own handed) (fetch own handed) (block_of number there) ≡ Rows rows → (r : ℕ) → r < 8 → value_at rows r ≡ view (λ x. is_own me x || ended_by s (ended_later newer there) x) (stands there) r
+  shows-at-hand s may follows rows e r lt = copies-show there (block_of number there) s me (ended_later newer there) (look own handed) (fetch own handed) (may-read may) follows rows e r lt

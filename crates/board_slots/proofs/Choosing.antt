@@ -1,7 +1,7 @@
 -- What the choice of an ITL slot tells of the four.
-use Rattle.std.proofs.Common.{◌≡◌, ℕ, ◌+◌, ◌-◌, ◌<◌, ◌≤◌, Bool, true, false, cond, ◌⊎◌, inl, inr, List, [], ◌∷◌, length, get_or, map, refl, sym, ap, subst, ◌∙◌, arith}
-use Rattle.std.specs.Prelude.{Option, Some, None, is_some, nat_lt, zero, suc}
-use Rattle.std.specs.List.{AllByRecursion, position}
+use Rattle.std.proofs.Common.{◌≡◌, ℕ, ◌+◌, ◌-◌, ◌<◌, ◌≤◌, Bool, true, false, cond, List, [], ◌∷◌, length, get_or, map, refl, sym, subst, ◌∙◌, arith}
+use Rattle.std.specs.Prelude.{Option, Some, None, nat_lt, zero, suc}
+use Rattle.std.specs.List.{position}
 use Rattle.std.proofs.lemmas.List.{get_or-map, length-map}
 use Rattle.base_types.specs.declared.names.Xid.{Xid}
 use Rattle.redo_types.specs.declared.blocks.ItlSlot.{ItlSlot}
@@ -10,7 +10,6 @@ use Rattle.block_image.specs.Block.{slot_at}
 use Rattle.undo_segment.specs.declared.look.Look.{Look}
 use Rattle.undo_segment.specs.declared.look.Look.TheVariants.{Active, Ended, ReusedBelow, Unlooked}
 use Rattle.txn_slots.specs.declared.choice.Ending.{Ending}
-use Rattle.txn_slots.specs.declared.choice.SlotAnswer.{SlotAnswer}
 use Rattle.txn_slots.specs.declared.choice.SlotAnswer.TheVariants.{Need, NoItl, Take}
 use Rattle.txn_slots.specs.declared.wanted.Wanted.TheVariants.{Head}
 use Rattle.txn_slots.specs.Choice.{choose_slot, earlier, end_of, ended_or, ending_of, is_own_slot, is_unlooked, is_unused, least, MayTake, take_ended, take_own, take_unused, TakesWhatItMay}

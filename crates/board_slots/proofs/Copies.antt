@@ -1,5 +1,5 @@
 -- A consistent copy shows what is visible.
-use Rattle.std.proofs.Common.{◌≡◌, ℕ, ◌≤◌, Bool, true, false, cond, not, ◌&&◌, ◌||◌, ◌==◌, List, [], ◌∷◌, ◌++◌, refl, sym, ap, ◌∙◌, subst, inl, inr, ◌⊎◌}
+use Rattle.std.proofs.Common.{◌≡◌, ℕ, ◌≤◌, Bool, true, false, cond, not, ◌&&◌, ◌||◌, ◌==◌, List, [], ◌∷◌, refl, sym, ap, ◌∙◌, subst, inl, inr, ◌⊎◌}
 use Rattle.std.specs.Prelude.{Option, Some, None, Result, IsSomeAnd, IfSome, is_some, if◌then◌else◌}
 use Rattle.std.specs.List.{AllByRecursion}
 use Rattle.std.proofs.lemmas.Bool.{eqb-true, eq-eqb}
@@ -14,7 +14,7 @@ use Rattle.journal.proofs.XidLemmas.{both_true, same_xid-true}
 use Rattle.board_slots.specs.Block.{Deed, newest, on_row, puts_on, in_slot, by, value_of, Image, held_by}
 use Rattle.board_slots.specs.Slots.{IsFair, Orderly, Shows}
 use Rattle.board_slots.specs.Views.{ReaderFollows, view}
-use Rattle.board_slots.proofs.Rule.{first_of, four, head_halt, pick, best, undo_halt}
+use Rattle.board_slots.proofs.Rule.{four, head_halt, pick, best, undo_halt}
 use Rattle.board_slots.proofs.Newest.{clash, all_map, all_both, newest-all, newest-passes, newest-none, the}
 use Rattle.board_slots.proofs.Removal.{row-shares, newest-own}
 use Rattle.board_slots.proofs.Held.{each-there, fair-all, held-is}

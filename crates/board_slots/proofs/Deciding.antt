@@ -5,7 +5,6 @@ use Rattle.std.specs.List.{AllByRecursion}
 use Rattle.std.proofs.lemmas.Bool.{eqb-false, eqb-true}
 use Rattle.base_types.specs.declared.names.Xid.{Xid}
 use Rattle.base_types.specs.declared.value.Value.{Value}
-use Rattle.redo_types.specs.declared.blocks.ItlSlot.{ItlSlot}
 use Rattle.journal.specs.Past.{same_xid}
 use Rattle.journal.proofs.XidLemmas.{same_xid-refl, same_xid-true}
 use Rattle.cr_copy.specs.Named.{IsNamed}
@@ -13,20 +12,19 @@ use Rattle.txn_slots.specs.Choice.{MayTake}
 use Rattle.board_slots.specs.Block.{Deed, newest, on_row, in_slot, by, slot_of, Image, Record, Stage, Open, Over, stage, commit_in, committed, content, stands}
 use Rattle.board_slots.specs.Slots.{IsUnder, IsFair, Orderly, IsLocked, IsFree, IsChosen, Shows}
 use Rattle.board_slots.specs.Records.{MayDo, Sound}
-use Rattle.block_image.specs.Block.{BlockContent, row_at, slot_at}
+use Rattle.block_image.specs.Block.{BlockContent, slot_at}
 use Rattle.undo_segment.specs.declared.fetch.Fetch.TheVariants.{Unfetched}
 use Rattle.undo_segment.specs.declared.look.Look.{Look}
 use Rattle.undo_segment.specs.declared.look.Look.TheVariants.{Active, Ended, ReusedBelow, Unlooked}
 use Rattle.txn_slots.specs.declared.choice.SlotAnswer.TheVariants.{Take}
 use Rattle.txn_slots.specs.declared.lock.LockAnswer.TheVariants.{Mine}
-use Rattle.txn_slots.specs.Choice.{choose_slot, end_of, is_own_slot, is_unused}
-use Rattle.txn_slots.specs.Lock.{lock_by, lock_named, lock_row, locker, named_by}
+use Rattle.txn_slots.specs.Choice.{choose_slot, end_of, is_own_slot}
+use Rattle.txn_slots.specs.Lock.{lock_by, lock_named, lock_row, locker}
 use Rattle.txn_slots.specs.Own.{is_own}
 use Rattle.board_slots.specs.Decide.{decided, GoesOn, MayDecide, RowIsFree, Tells}
 use Rattle.board_slots.specs.Images.{IsSeen}
 use Rattle.board_slots.specs.Views.{ReaderFollows}
 use Rattle.board_slots.proofs.Choosing.{Chosen, chosen}
-use Rattle.board_slots.proofs.Rule.{four}
 use Rattle.board_slots.proofs.Works.{lock-low}
 use Rattle.board_slots.proofs.Newest.{clash, same_xid-sym, all_map, all_both, newest-all, newest-none}
 use Rattle.board_slots.proofs.Removal.{row-shares}

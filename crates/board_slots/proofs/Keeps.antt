@@ -165,7 +165,7 @@ keeps records (Does m) may sound =
       shows = made-shows (committed records) (content records) (stands records) m sound.orderly sound.shows may.made;
       ends = ((λ e. let bad : Open ≡ Over None = sym may.goes_on ∙ e in cc), sound.ends);
     }
-keeps records (TakesBack x seq scn change) may sound = subst (λ change. Sound (TakesBack x seq scn change ∷ records)) (sym may.does) (keeps-back records x seq scn may.m may.goes_on may.newest_own may.number may.up sound)
+keeps records (TakesBack x seq scn change) may sound = subst (λ change. Sound (TakesBack x seq scn change ∷ records)) (sym may.does) (keeps-back records x seq scn may.deed may.goes_on may.newest_own may.number may.up sound)
 keeps records (Commits c x) may sound = keeps-commit records c x may sound
 keeps records (RollsBack c x) may sound = keeps-roll records c x may sound
 

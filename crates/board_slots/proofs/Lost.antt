@@ -88,7 +88,7 @@ may-kept keep older (Does m) reasons may =
     }
 may-kept keep older (TakesBack x seq scn change) reasons may =
     let same = same-block keep older reasons in
-    record { goes_on = open-kept keep x older may.goes_on; m = may.m; newest_own = rw same.1 may.newest_own; number = may.number; does = rw same.0 may.does; up = rw same.0 may.up }
+    record { goes_on = open-kept keep x older may.goes_on; deed = may.deed; newest_own = rw same.1 may.newest_own; number = may.number; does = rw same.0 may.does; up = rw same.0 may.up }
 may-kept keep older (Commits c x) reasons may = record { goes_on = open-kept keep x older may.goes_on; above = all_filter (DeedsBelow x c) keep older may.above }
 may-kept keep older (RollsBack c x) reasons may = record { goes_on = open-kept keep x older may.goes_on; none = reasons; above = all_filter (DeedsBelow x c) keep older may.above }
 

@@ -1,6 +1,6 @@
 -- What headers tell fits what stands.
-use Rattle.std.proofs.Common.{◌≡◌, ℕ, ◌<◌, ◌≤◌, Bool, true, false, cond, not, ◌||◌, List, refl, sym, ◌∙◌, arith}
-use Rattle.std.specs.Prelude.{Option, Some, None, Result, Ok, Err, IsSomeAnd, IfSome, nat_lt, nat_le}
+use Rattle.std.proofs.Common.{◌≡◌, ℕ, ◌<◌, ◌≤◌, Bool, true, false, cond, not, ◌||◌, refl, sym, ◌∙◌, arith}
+use Rattle.std.specs.Prelude.{Option, Some, None, Ok, Err, IsSomeAnd, IfSome, nat_lt, nat_le}
 use Rattle.std.proofs.lemmas.Bool.Decides.{nat_tests}
 use Rattle.base_types.specs.declared.names.Xid.{Xid}
 use Rattle.journal.proofs.XidLemmas.{same_xid-true}
@@ -9,7 +9,6 @@ use Rattle.undo_segment.specs.declared.fetch.Fetch.{Fetch}
 use Rattle.undo_segment.specs.declared.look.Look.{Look}
 use Rattle.undo_segment.specs.declared.look.Look.TheVariants.{Active, Ended, ReusedBelow, Unlooked}
 use Rattle.txn_slots.specs.Own.{is_own}
-use Rattle.cr_copy.specs.declared.made.Halt.{Halt}
 use Rattle.cr_copy.specs.declared.made.Halt.TheVariants.{TooOld}
 use Rattle.cr_copy.specs.Copy.{back_by}
 use Rattle.board_slots.specs.Block.{Deed}

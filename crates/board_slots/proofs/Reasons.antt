@@ -1,5 +1,5 @@
 -- Why a copy has no rows.
-use Rattle.std.proofs.Common.{◌≡◌, ℕ, ◌-◌, ◌<◌, ◌≤◌, Bool, true, false, cond, ◌&&◌, List, [], ◌∷◌, ◌++◌, refl, sym, ap, ◌∙◌, subst, arith, inl, inr, ◌⊎◌}
+use Rattle.std.proofs.Common.{◌≡◌, ℕ, ◌-◌, ◌<◌, ◌≤◌, Bool, true, false, cond, List, [], ◌∷◌, ◌++◌, refl, sym, ap, ◌∙◌, subst, arith, inl, inr, ◌⊎◌}
 use Rattle.std.specs.Prelude.{Option, Some, None, Result, Ok, Err, nat_lt, nat_le, zero, suc}
 use Rattle.std.specs.List.{AllByRecursion, Any}
 use Rattle.std.proofs.lemmas.Bool.Decides.{nat_tests}
@@ -15,7 +15,7 @@ use Rattle.txn_slots.specs.Own.{is_own}
 use Rattle.cr_copy.specs.declared.copy.Pick.{Pick}
 use Rattle.cr_copy.specs.declared.copy.Work.{Work}
 use Rattle.cr_copy.specs.declared.made.Halt.{Halt}
-use Rattle.cr_copy.specs.declared.made.Halt.TheVariants.{Bad, Need, TooOld}
+use Rattle.cr_copy.specs.declared.made.Halt.TheVariants.{Need, TooOld}
 use Rattle.cr_copy.specs.Copy as copy
 use Rattle.cr_copy.specs.Copy.{back_by, falling, fetched, fits, goes_on, halted, is_named, round, rounds}
 use Rattle.board_slots.specs.Block.{Deed, newest, in_slot, slot_of}

@@ -1,10 +1,8 @@
 -- What refuses a change.
-use Rattle.std.proofs.Common.{◌≡◌, ℕ, ◌<◌, ◌≤◌, Bool, true, false, cond, ◌==◌, ltb, List, [], ◌∷◌, refl, sym, ap, ◌∙◌, subst, inl, inr}
+use Rattle.std.proofs.Common.{◌≡◌, ℕ, ◌<◌, ◌≤◌, Bool, true, false, cond, ◌==◌, List, refl, sym, ap, ◌∙◌, subst, inl, inr}
 use Rattle.std.specs.Prelude.{Option, Some, None, IsSomeAnd}
-use Rattle.std.specs.List.{AllByRecursion}
 use Rattle.std.proofs.lemmas.Bool.{eqb-true}
 use Rattle.base_types.specs.declared.names.Xid.{Xid}
-use Rattle.redo_types.specs.declared.blocks.ItlSlot.{ItlSlot}
 use Rattle.journal.specs.Past.{same_xid}
 use Rattle.journal.proofs.XidLemmas.{same_xid-refl}
 use Rattle.board_slots.specs.Block.{Deed, newest, on_row, in_slot, slot_of, Image, Record, committed, content, stands}
@@ -17,7 +15,7 @@ use Rattle.txn_slots.specs.declared.choice.SlotAnswer.TheVariants.{NoItl}
 use Rattle.txn_slots.specs.declared.lock.LockAnswer.TheVariants.{Free, Held, Mine, Need}
 use Rattle.txn_slots.specs.declared.lock.Released.TheVariants.{Below, Exactly}
 use Rattle.txn_slots.specs.declared.wanted.Wanted.TheVariants.{Head}
-use Rattle.txn_slots.specs.Choice.{choose_slot, is_own_slot, is_unused}
+use Rattle.txn_slots.specs.Choice.{choose_slot, is_unused}
 use Rattle.txn_slots.specs.Lock.{lock_by, lock_named, lock_row}
 use Rattle.txn_slots.specs.Own.{is_own}
 use Rattle.board_slots.specs.Decide.{IsBusy, IsTakenBy}

@@ -8,7 +8,7 @@ use Rattle.undo_segment.specs.declared.fetch.Fetch.TheVariants.{Has, Reused}
 use Rattle.undo_segment.specs.Fetch.{found_at}
 use Rattle.board_slots.specs.Ring.{Rising, in_place}
 use Rattle.board_slots.specs.Views.{IsWritten}
-use Rattle.board_slots.proofs.Newest.{all_map, clash}
+use Rattle.board_slots.proofs.Newest.{all_map}
 
 -- who stands in a place, and each one with its number is it
 record Stands (d : UndoRecord) (written : List UndoRecord) : Type 0 where

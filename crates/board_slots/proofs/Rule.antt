@@ -1,19 +1,15 @@
 -- A round of the rule of copies, by the halts and picks of four slots.
-use Rattle.std.proofs.Common.{◌≡◌, ◌≢◌, ℕ, ◌+◌, ◌-◌, ◌<◌, ◌≤◌, Bool, true, false, cond, not, ◌&&◌, ◌||◌, ◌==◌, List, [], ◌∷◌, length, map, refl, sym, ap, ◌∙◌, subst, arith, inl, inr, ◌⊎◌}
+use Rattle.std.proofs.Common.{◌≡◌, ℕ, ◌≤◌, Bool, true, false, ◌==◌, List, [], ◌∷◌, length, refl, ap, ◌∙◌, arith}
 use Rattle.std.specs.Prelude.{Option, Some, None, Result, Ok, Err, if◌then◌else◌}
-use Rattle.std.proofs.lemmas.Bool.{eq-eqb}
-use Rattle.std.proofs.lemmas.Bool.Decides.{nat_tests}
 use Rattle.base_types.specs.declared.names.Xid.{Xid}
 use Rattle.redo_types.specs.declared.blocks.ItlSlot.{ItlSlot}
-use Rattle.redo_types.specs.declared.undo.UndoRecord.{UndoRecord}
-use Rattle.part_image.specs.Slots.{unused_itl}
 use Rattle.block_image.specs.Block.{slot_at}
 use Rattle.undo_segment.specs.declared.fetch.Fetch.{Fetch}
 use Rattle.undo_segment.specs.declared.look.Look.{Look}
 use Rattle.txn_slots.specs.Own.{is_own}
 use Rattle.cr_copy.specs.declared.copy.Pick.{Pick}
 use Rattle.cr_copy.specs.declared.made.Halt.{Halt}
-use Rattle.cr_copy.specs.Copy.{back_by, fetched, first_halt, goes_back, after_heads, halt_or, higher, joined, newest, picked, round}
+use Rattle.cr_copy.specs.Copy.{back_by, fetched, after_heads, halt_or, higher, joined, picked, round}
 
 -- whether the changes of a transaction go back
 abbrev pub class : ℕ → Option Xid → (Xid → Look) → Xid → Result Bool Halt

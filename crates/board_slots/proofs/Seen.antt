@@ -122,7 +122,7 @@ seen-empty number =
 -- what a step back names is placed
 back-placed : (records : List Record) (x : Xid) (seq scn : ℕ) (change : RowChange) → Sound records → MayBack records x seq scn change → (change.row < 8) × (1 ≤ change.itl) × (change.itl ≤ 4)
 back-placed records x seq scn change sound may =
-    let placed = (newest-all (IsFair (committed records)) (by x) may.m (stands records) (fair-all (committed records) (stands records) sound.orderly) may.newest_own).placed in
+    let placed = (newest-all (IsFair (committed records)) (by x) may.deed (stands records) (fair-all (committed records) (stands records) sound.orderly) may.newest_own).placed in
     rw may.does (placed.row, placed.first, placed.last)
 
 pub blocks-seen : (number : ℕ) (records : List Record) → AreMade records → IsSeen (block_of number records) (content records)

@@ -1,6 +1,6 @@
 -- The theorem on consistent copies.
 use Rattle.std.proofs.Common.{◌≡◌, ◌≢◌, ℕ, ◌+◌, ◌<◌, ◌≤◌, ◌||◌, List, refl, sym, ap, ◌∙◌, subst, arith}
-use Rattle.std.specs.Prelude.{Option, Some, None, Result, Ok, Err, IfSome, zero, suc}
+use Rattle.std.specs.Prelude.{Option, None, Result, Ok, Err, IfSome, suc}
 use Rattle.std.specs.List.{AllByRecursion, Any}
 use Rattle.base_types.specs.declared.names.Xid.{Xid}
 use Rattle.base_types.specs.declared.value.Value.{Value}
@@ -11,11 +11,11 @@ use Rattle.txn_slots.specs.Own.{is_own}
 use Rattle.cr_copy.specs.declared.copy.Work.{Work}
 use Rattle.cr_copy.specs.declared.made.Halt.{Halt}
 use Rattle.cr_copy.specs.declared.made.Halt.TheVariants as halt
-use Rattle.cr_copy.specs.declared.made.Made.{Made}
 use Rattle.cr_copy.specs.declared.made.Made.TheVariants.{Bad, Need, Rows, TooOld}
 use Rattle.cr_copy.specs.Copy.{halted, made_of, make, round, rounds, row_shown, rows_shown, work_of}
-use Rattle.board_slots.specs.Block.{Deed, Image, Record, committed, content, stands}
+use Rattle.board_slots.specs.Block.{Image, Record, committed, content, stands}
 use Rattle.board_slots.specs.Images.{IsSeen}
+use Rattle.board_slots.specs.Reads.{MayRead}
 use Rattle.board_slots.specs.Records.{AreMade, Sound}
 use Rattle.board_slots.specs.Told.{ended_by, HasReason, IsTold, Stops}
 use Rattle.board_slots.specs.Views.{ReaderFollows, value_at, view}
@@ -28,8 +28,16 @@ use Rattle.board_slots.proofs.Ends.{IsView, rounds-view}
 use Rattle.board_slots.proofs.Readers.{fits-told}
 use Rattle.board_slots.proofs.Reasons.{Low, rounds-stop}
 
-module _ (records : List Record) (made : AreMade records) (block : BlockContent) (seen : IsSeen block (content records)) (s : ℕ) (me : Option Xid) (ended : Xid → Option ℕ) (look : Xid → Look) (fetch : Xid → ℕ → Fetch)
-    (reader : IfSome me (λ x. committed records x ≡ None)) (told : AllByRecursion (IsTold block.front.number (committed records) ended look fetch) (stands records)) where
+module _ (records : List Record) (block : BlockContent) (s : ℕ) (me : Option Xid) (ended : Xid → Option ℕ) (look : Xid → Look) (fetch : Xid → ℕ → Fetch) (may : MayRead records block me ended look fetch) where
+  abbrev made : AreMade records
+  made = may.made
+
+  abbrev seen : IsSeen block (content records)
+  seen = may.seen
+
+  abbrev reader : IfSome me (λ x. committed records x ≡ None)
+  reader = may.open_there
+
   abbrev number : ℕ
   number = block.front.number
 
@@ -43,7 +51,7 @@ module _ (records : List Record) (made : AreMade records) (block : BlockContent)
   sound = all-sound records made
 
   fits : AllByRecursion (Fits past s me (ended_by s ended) (class s me look) number fetch) (stands records)
-  fits = all_map (IsTold number past ended look fetch) (Fits past s me (ended_by s ended) (class s me look) number fetch) (stands records) (fits-told past s me ended look number fetch reader) told
+  fits = all_map (IsTold number past ended look fetch) (Fits past s me (ended_by s ended) (class s me look) number fetch) (stands records) (fits-told past s me ended look number fetch reader) may.told
 
   abbrev begin : Rest
   begin = record { value = image.value; slot = image.slot }

@@ -12,60 +12,61 @@ use Rattle.txn_slots.specs.Lock.{released_at}
 use Rattle.txn_slots.specs.Own.{is_own}
 use Rattle.board_slots.specs.Block.{Deed, newest, in_slot, on_row, by, Image, Record, Open, stage, committed, content, stands, held_by}
 
--- A statement at s goes on where the row is its own transaction's, or was let go at s or before.
+-- A statement goes on where the row is its own transaction's, or was let go at its snapshot or before.
 abbrev pub GoesOn : ℕ → LockAnswer → Type 0
-GoesOn s (Free released) = released_at released ≤ s
-GoesOn s Mine = Unit {0}
-GoesOn s (Held x) = ⊥
-GoesOn s (Need wanted) = ⊥
+GoesOn snapshot (Free released) = released_at released ≤ snapshot
+GoesOn snapshot Mine = Unit {0}
+GoesOn snapshot (Held xid) = ⊥
+GoesOn snapshot (Need wanted) = ⊥
 
 -- what a header tells, as the block stands
 abbrev pub Tells : List Record → Xid → Look → Type 0
-Tells records x (Ended e) = (stage x records ≢ Open) × IfSome (committed records x) (λ c. c ≡ e)
-Tells records x (ReusedBelow e found) = (stage x records ≢ Open) × IfSome (committed records x) (λ c. c ≤ e)
-Tells records x _ = Unit {0}
+Tells records xid (Ended end) = (stage xid records ≢ Open) × IfSome (committed records xid) (λ scn. scn ≡ end)
+Tells records xid (ReusedBelow end found) = (stage xid records ≢ Open) × IfSome (committed records xid) (λ scn. scn ≤ end)
+Tells records xid _ = Unit {0}
 
 -- A transaction changes a row of a block: its own, or a new one of which nothing stands. Headers tell of all that have a
 -- slot; each end that they tell is below the SCN of the change.
-pub record MayDecide (records : List Record) (me : Option Xid) (x : Xid) (look : Xid → Look) (s scn : ℕ) : Type 0 where
-  pub mine : (me ≡ Some x) ⊎ ((me ≡ None) × (newest (by x) (stands records) ≡ None))
-  pub wrap : 1 ≤ x.wrap
-  pub goes_on : stage x records ≡ Open
+pub record MayDecide (records : List Record) (me : Option Xid) (xid : Xid) (look : Xid → Look) (snapshot scn : ℕ) : Type 0 where
+  pub mine : (me ≡ Some xid) ⊎ ((me ≡ None) × (newest (by xid) (stands records) ≡ None))
+  pub wrap : 1 ≤ xid.wrap
+  pub goes_on : stage xid records ≡ Open
   pub up : (content records).scn < scn
-  pub tells : AllByRecursion (λ m. Tells records m.xid (look m.xid)) (stands records)
-  pub low : AllByRecursion (λ m. IfSome (end_of (look m.xid)) (λ e. e < scn)) (stands records)
-  pub started : s < scn
+  pub tells : AllByRecursion (λ deed. Tells records deed.xid (look deed.xid)) (stands records)
+  pub low : AllByRecursion (λ deed. IfSome (end_of (look deed.xid)) (λ end. end < scn)) (stands records)
+  pub started : snapshot < scn
 
--- each that stands on a row is the transaction's own or has committed up to s
+-- each that stands on a row is the transaction's own or has committed up to the snapshot
 abbrev pub RowIsFree : List Record → Xid → ℕ → ℕ → Type 0
-RowIsFree records x s r = AllByRecursion (λ m. on_row r m ≡ true → (m.xid ≡ x) ⊎ IsSomeAnd (committed records m.xid) (λ c. c ≤ s)) (stands records)
+RowIsFree records xid snapshot row = AllByRecursion (λ deed. on_row row deed ≡ true → (deed.xid ≡ xid) ⊎ IsSomeAnd (committed records deed.xid) (λ end. end ≤ snapshot)) (stands records)
 
--- the newest that stands on a row is
+-- so is the newest that stands on a row
 abbrev pub NewestIsFree : List Record → Xid → ℕ → ℕ → Type 0
-NewestIsFree records x s r = (n : Deed) → newest (on_row r) (stands records) ≡ Some n → (n.xid ≡ x) ⊎ IsSomeAnd (committed records n.xid) (λ c. c ≤ s)
+NewestIsFree records xid snapshot row = (top : Deed) → newest (on_row row) (stands records) ≡ Some top → (top.xid ≡ xid) ⊎ IsSomeAnd (committed records top.xid) (λ end. end ≤ snapshot)
 
--- the change or lock that is made of a row, after the one with number prev, with this number and SCN, by way of slot k
+-- the deed that is decided of a row, after its transaction's deed with number prev, with this number and SCN, by way of
+-- the ITL slot with this number
 abbrev pub decided : Image → Xid → ℕ → ℕ → ℕ → ℕ → ℕ → Bool → Value → Deed
-decided image x prev seq scn r k puts value =
+decided image xid prev seq scn row itl puts value =
     record {
-      xid = x;
+      xid = xid;
       seq = seq;
       prev = prev;
       scn = scn;
       version = image.version + 1;
-      row = r;
-      itl = k;
+      row = row;
+      itl = itl;
       puts = puts;
-      value = if puts then value else image.value r;
-      old = image.value r;
-      old_itl = image.slot k;
-      mine = held_by x image r;
+      value = if puts then value else image.value row;
+      old = image.value row;
+      old_itl = image.slot itl;
+      mine = held_by xid image row;
     }
 
 -- Who is told to hold a row is another transaction, active by its header, and the newest deed on the row is its.
 abbrev pub IsBusy : List Record → Option Xid → (Xid → Look) → ℕ → Xid → Type 0
-IsBusy records me look r y = (look y ≡ Active) × (is_own me y ≡ false) × IsSomeAnd (newest (on_row r) (stands records)) (λ n. n.xid ≡ y)
+IsBusy records me look row other = (look other ≡ Active) × (is_own me other ≡ false) × IsSomeAnd (newest (on_row row) (stands records)) (λ top. top.xid ≡ other)
 
 -- A slot is another transaction's, active by its header, and the newest deed in the slot is its.
 abbrev pub IsTakenBy : List Record → Option Xid → (Xid → Look) → ℕ → Xid → Type 0
-IsTakenBy records me look k y = (look y ≡ Active) × (is_own me y ≡ false) × IsSomeAnd (newest (in_slot k) (stands records)) (λ n. n.xid ≡ y)
+IsTakenBy records me look itl other = (look other ≡ Active) × (is_own me other ≡ false) × IsSomeAnd (newest (in_slot itl) (stands records)) (λ top. top.xid ≡ other)

@@ -13,21 +13,21 @@ use Rattle.board_slots.specs.Ring.{in_place, Rising}
 use Rattle.board_slots.specs.Views.{undo_of}
 
 -- A header has in a transaction's slot what the turns of the slot left, and by these the transaction ended so, or not yet.
-pub record HeaderTells (x : Xid) (end : Option ℕ) (head : HeaderContent) : Type 0 where
+pub record HeaderTells (xid : Xid) (end : Option ℕ) (head : HeaderContent) : Type 0 where
   pub turns : List Turn
   pub in_turn : Turns turns
-  pub slot : IsSlotOf (slot_at head x.slot) (table_slot turns)
-  pub ends : end_in x.wrap turns ≡ end
+  pub slot : IsSlotOf (slot_at head xid.slot) (table_slot turns)
+  pub ends : end_in xid.wrap turns ≡ end
 
 -- An undo block has in the place of an undo record what the undo of the segment left there, which that record is one of.
-pub record BlockHolds (size : ℕ) (u : UndoRecord) (block : UndoContent) : Type 0 where
+pub record BlockHolds (size : ℕ) (undo : UndoRecord) (block : UndoContent) : Type 0 where
   pub written : List UndoRecord
   pub rises : Rising written
-  pub there : Contains written u
-  pub place : record_at block ((u.seq - 1) % 4) ≡ in_place size ((u.seq - 1) % size) written
+  pub there : Contains written undo
+  pub place : record_at block ((undo.seq - 1) % 4) ≡ in_place size ((undo.seq - 1) % size) written
 
 -- What is at hand of a deed in the block with this number: the header of its segment, if that is at hand, tells its
 -- transaction's end, and the block of its undo record, if that is at hand, is of a moment after it was written.
-pub record IsAtHand (own : SegmentState) (handed : HandedState) (number : ℕ) (ended : Xid → Option ℕ) (m : Deed) : Type 0 where
-  pub head : IfSome (header_for own handed m.xid.seg) (HeaderTells m.xid (ended m.xid))
-  pub undo : IfSome (undo_block_for own handed m.xid.seg m.seq) (BlockHolds own.layout.undo (undo_of number m))
+pub record IsAtHand (own : SegmentState) (handed : HandedState) (number : ℕ) (ended : Xid → Option ℕ) (deed : Deed) : Type 0 where
+  pub head : IfSome (header_for own handed deed.xid.seg) (HeaderTells deed.xid (ended deed.xid))
+  pub undo : IfSome (undo_block_for own handed deed.xid.seg deed.seq) (BlockHolds own.layout.undo (undo_of number deed))

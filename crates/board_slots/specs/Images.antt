@@ -10,17 +10,17 @@ pub record IsSeen (block : BlockContent) (image : Image) : Type 0 where
   pub eight_rows : length block.rows ≡ 8
   pub version : block.front.version ≡ image.version
   pub scn : block.front.scn ≡ image.scn
-  pub value : (r : ℕ) → r < 8 → (row_at block.rows r).value ≡ image.value r
-  pub lock : (r : ℕ) → r < 8 → (row_at block.rows r).lock ≡ image.lock r
-  pub slot : (k : ℕ) → 1 ≤ k → k ≤ 4 → slot_at block.itl k ≡ image.slot k
+  pub value : (row : ℕ) → row < 8 → (row_at block.rows row).value ≡ image.value row
+  pub lock : (row : ℕ) → row < 8 → (row_at block.rows row).lock ≡ image.lock row
+  pub slot : (itl : ℕ) → 1 ≤ itl → itl ≤ 4 → slot_at block.itl itl ≡ image.slot itl
 
 -- what a record does to a block
 abbrev pub block_after : Record → BlockContent → BlockContent
-block_after (Does m) block = applied block (change_of m) m.scn
-block_after (TakesBack x seq scn change) block = applied block change scn
+block_after (Does deed) block = applied block (change_of deed) deed.scn
+block_after (TakesBack xid seq scn change) block = applied block change scn
 block_after _ block = block
 
 -- the block with this number after these records, the newest first
 abbrev pub block_of : ℕ → List Record → BlockContent
 block_of number [] = empty_block number
-block_of number (r ∷ older) = block_after r (block_of number older)
+block_of number (latest ∷ older) = block_after latest (block_of number older)

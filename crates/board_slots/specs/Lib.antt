@@ -7,5 +7,6 @@ pub mod Images
 pub mod Header
 pub mod Ring
 pub mod Hand
+pub mod Reads
 pub mod Decide
 pub mod Losses

@@ -7,47 +7,49 @@ use Rattle.board_slots.specs.Block.{Deed, newest, by, Record, Does, TakesBack, C
 use Rattle.board_slots.specs.Slots.{Orderly, Shows, back_of, IsMade}
 
 -- a change or lock is made of an open transaction
-pub record MayDo (records : List Record) (m : Deed) : Type 0 where
-  pub goes_on : stage m.xid records ≡ Open
-  pub made : IsMade (committed records) (content records) m
+pub record MayDo (records : List Record) (deed : Deed) : Type 0 where
+  pub goes_on : stage deed.xid records ≡ Open
+  pub made : IsMade (committed records) (content records) deed
 
 -- the newest of an open transaction is taken back
-pub record MayBack (records : List Record) (x : Xid) (seq scn : ℕ) (change : RowChange) : Type 0 where
-  pub goes_on : stage x records ≡ Open
-  pub m : Deed
-  pub newest_own : newest (by x) (stands records) ≡ Some m
-  pub number : seq ≡ m.seq
-  pub does : change ≡ back_of m (content records)
+pub record MayBack (records : List Record) (xid : Xid) (seq scn : ℕ) (change : RowChange) : Type 0 where
+  pub goes_on : stage xid records ≡ Open
+  pub deed : Deed
+  pub newest_own : newest (by xid) (stands records) ≡ Some deed
+  pub number : seq ≡ deed.seq
+  pub does : change ≡ back_of deed (content records)
   pub up : (content records).scn < scn
 
 -- a change or lock of a transaction is below an SCN
 abbrev pub DeedsBelow : Xid → ℕ → Record → Type 0
-DeedsBelow x c (Does m) = by x m ≡ true → m.scn < c
-DeedsBelow x c _ = Unit {0}
+DeedsBelow xid scn (Does deed) = by xid deed ≡ true → deed.scn < scn
+DeedsBelow xid scn _ = Unit {0}
 
 -- an open transaction commits, above what it did
-pub record MayCommit (records : List Record) (c : ℕ) (x : Xid) : Type 0 where
-  pub goes_on : stage x records ≡ Open
-  pub above : AllByRecursion (DeedsBelow x c) records
+pub record MayCommit (records : List Record) (scn : ℕ) (xid : Xid) : Type 0 where
+  pub goes_on : stage xid records ≡ Open
+  pub above : AllByRecursion (DeedsBelow xid scn) records
 
 -- an open transaction of which nothing stands is rolled back
-pub record MayRoll (records : List Record) (c : ℕ) (x : Xid) : Type 0 where
-  pub goes_on : stage x records ≡ Open
-  pub none : newest (by x) (stands records) ≡ None
-  pub above : AllByRecursion (DeedsBelow x c) records
+pub record MayRoll (records : List Record) (scn : ℕ) (xid : Xid) : Type 0 where
+  pub goes_on : stage xid records ≡ Open
+  pub none : newest (by xid) (stands records) ≡ None
+  pub above : AllByRecursion (DeedsBelow xid scn) records
 
+-- The rules may make this record next.
 abbrev pub May : List Record → Record → Type 0
-May records (Does m) = MayDo records m
-May records (TakesBack x seq scn change) = MayBack records x seq scn change
-May records (Commits c x) = MayCommit records c x
-May records (RollsBack c x) = MayRoll records c x
+May records (Does deed) = MayDo records deed
+May records (TakesBack xid seq scn change) = MayBack records xid seq scn change
+May records (Commits scn xid) = MayCommit records scn xid
+May records (RollsBack scn xid) = MayRoll records scn xid
 
+-- The rules made each of these records, the newest first.
 abbrev pub AreMade : List Record → Type 0
 AreMade [] = Unit {0}
-AreMade (r ∷ records) = May records r × AreMade records
+AreMade (latest ∷ records) = May records latest × AreMade records
 
 -- what holds of a block: what stands is in order, the block says it, and nothing stands of one that was rolled back
 pub record Sound (records : List Record) : Type 0 where
   pub orderly : Orderly (committed records) (stands records)
   pub shows : Shows (committed records) (content records) (stands records)
-  pub ends : AllByRecursion (λ m. stage m.xid records ≢ Over None) (stands records)
+  pub ends : AllByRecursion (λ deed. stage deed.xid records ≢ Over None) (stands records)

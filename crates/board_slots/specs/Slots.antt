@@ -8,95 +8,96 @@ use Rattle.journal.specs.Past.{same_xid}
 use Rattle.cr_copy.specs.Named.{IsNamed}
 use Rattle.board_slots.specs.Block.{Deed, newest, on_row, by, slot_of, slot_by, value_by, Image, held_by}
 
--- A newer change or lock and an older one. Where they share a row or a slot, they are of one transaction, or the older
+-- A newer deed and an older one, which is under it. Where they share a row or a slot, they are of one transaction, or the older
 -- one's had committed before. One transaction has one slot. Versions rise.
-pub record IsUnder (committed : Xid → Option ℕ) (m o : Deed) : Type 0 where
-  pub row : (m.row == o.row) ≡ true → same_xid m.xid o.xid ≡ false → IsSomeAnd (committed o.xid) (λ c. c < m.scn)
-  pub slot : (m.itl == o.itl) ≡ true → same_xid m.xid o.xid ≡ false → IsSomeAnd (committed o.xid) (λ c. c < m.scn)
-  pub one : same_xid m.xid o.xid ≡ true → m.itl ≡ o.itl
-  pub rises : o.version < m.version
+pub record IsUnder (committed : Xid → Option ℕ) (deed under : Deed) : Type 0 where
+  pub row : (deed.row == under.row) ≡ true → same_xid deed.xid under.xid ≡ false → IsSomeAnd (committed under.xid) (λ end. end < deed.scn)
+  pub slot : (deed.itl == under.itl) ≡ true → same_xid deed.xid under.xid ≡ false → IsSomeAnd (committed under.xid) (λ end. end < deed.scn)
+  pub one : same_xid deed.xid under.xid ≡ true → deed.itl ≡ under.itl
+  pub rises : under.version < deed.version
 
 -- undo keeps what stood
-pub record IsUndone (m : Deed) (older : List Deed) : Type 0 where
-  pub old : m.old ≡ value_by m.row older
-  pub slot : m.old_itl ≡ slot_by m.itl older
-  pub mine : m.mine ≡ is_some (newest (λ o. on_row m.row o && by m.xid o) older)
+pub record IsUndone (deed : Deed) (older : List Deed) : Type 0 where
+  pub old : deed.old ≡ value_by deed.row older
+  pub slot : deed.old_itl ≡ slot_by deed.itl older
+  pub mine : deed.mine ≡ is_some (newest (λ under. on_row deed.row under && by deed.xid under) older)
 
 -- A deed is of one of eight rows and of four ITL slots, and the slot that it leaves is used and can be looked up.
-pub record IsPlaced (m : Deed) : Type 0 where
-  pub row : m.row < 8
-  pub first : 1 ≤ m.itl
-  pub last : m.itl ≤ 4
-  pub wrap : 1 ≤ m.xid.wrap
-  pub named : IsNamed (slot_of (Some m))
+pub record IsPlaced (deed : Deed) : Type 0 where
+  pub row : deed.row < 8
+  pub first : 1 ≤ deed.itl
+  pub last : deed.itl ≤ 4
+  pub wrap : 1 ≤ deed.xid.wrap
+  pub named : IsNamed (slot_of (Some deed))
 
--- of itself
-pub record IsFair (committed : Xid → Option ℕ) (m : Deed) : Type 0 where
-  pub placed : IsPlaced m
-  pub version : 1 ≤ m.version
-  pub below : IfSome (committed m.xid) (λ c. m.scn < c)
+-- A deed is placed, its block has a version, and its transaction commits above it, if it does.
+pub record IsFair (committed : Xid → Option ℕ) (deed : Deed) : Type 0 where
+  pub placed : IsPlaced deed
+  pub version : 1 ≤ deed.version
+  pub below : IfSome (committed deed.xid) (λ end. deed.scn < end)
 
-pub record IsIn (committed : Xid → Option ℕ) (m : Deed) (older : List Deed) : Type 0 where
-  pub under : AllByRecursion (IsUnder committed m) older
-  pub undo : IsUndone m older
-  pub fair : IsFair committed m
+-- A deed is as those that are older leave it.
+pub record IsIn (committed : Xid → Option ℕ) (deed : Deed) (older : List Deed) : Type 0 where
+  pub under : AllByRecursion (IsUnder committed deed) older
+  pub undo : IsUndone deed older
+  pub fair : IsFair committed deed
 
 -- what stands in a block is in order
 abbrev pub Orderly : (Xid → Option ℕ) → List Deed → Type 0
 Orderly committed [] = Unit {0}
-Orderly committed (m ∷ deeds) = IsIn committed m deeds × Orderly committed deeds
+Orderly committed (deed ∷ deeds) = IsIn committed deed deeds × Orderly committed deeds
 
 -- The lock byte of a row, where this is the newest change or lock that stands on it: it names the slot that its
 -- transaction has, or it is 0, and that transaction has committed below the SCN.
 abbrev pub IsLocked : (Xid → Option ℕ) → ℕ → (ℕ → ItlSlot) → ℕ → Option Deed → Type 0
 IsLocked committed scn slot lock None = lock ≡ 0
-IsLocked committed scn slot lock (Some m) =
-    ((lock ≡ 0) × IsSomeAnd (committed m.xid) (λ c. c < scn)) ⊎ ((lock ≡ m.itl) × ((slot m.itl).xid ≡ m.xid))
+IsLocked committed scn slot lock (Some deed) =
+    ((lock ≡ 0) × IsSomeAnd (committed deed.xid) (λ end. end < scn)) ⊎ ((lock ≡ deed.itl) × ((slot deed.itl).xid ≡ deed.xid))
 
 -- a block says what stands in it
 pub record Shows (committed : Xid → Option ℕ) (image : Image) (deeds : List Deed) : Type 0 where
-  pub values : (r : ℕ) → image.value r ≡ value_by r deeds
-  pub slots : (k : ℕ) → image.slot k ≡ slot_by k deeds
-  pub locks : (r : ℕ) → IsLocked committed image.scn image.slot (image.lock r) (newest (on_row r) deeds)
-  pub low : AllByRecursion (λ m. (m.scn ≤ image.scn) × (m.version ≤ image.version)) deeds
+  pub values : (row : ℕ) → image.value row ≡ value_by row deeds
+  pub slots : (itl : ℕ) → image.slot itl ≡ slot_by itl deeds
+  pub locks : (row : ℕ) → IsLocked committed image.scn image.slot (image.lock row) (newest (on_row row) deeds)
+  pub low : AllByRecursion (λ deed. (deed.scn ≤ image.scn) × (deed.version ≤ image.version)) deeds
 
 -- what a step back of this one does, on the block as it stands
 abbrev pub back_of : Deed → Image → RowChange
-back_of m image =
+back_of deed image =
     record {
-      row = m.row;
-      lock = if m.mine then image.lock m.row else 0;
-      itl = m.itl;
+      row = deed.row;
+      lock = if deed.mine then image.lock deed.row else 0;
+      itl = deed.itl;
       fresh = false;
-      slot = m.old_itl;
-      value = m.old;
+      slot = deed.old_itl;
+      value = deed.old;
     }
 
 -- Who has the lock of a row is the transaction itself, or committed below an SCN, or nobody.
 abbrev pub IsFree : (Xid → Option ℕ) → Image → ℕ → Xid → ℕ → Type 0
-IsFree committed image r x scn =
-    (image.lock r ≡ 0) ⊎ (((image.slot (image.lock r)).xid ≡ x) ⊎ IsSomeAnd (committed (image.slot (image.lock r)).xid) (λ c. c < scn))
+IsFree committed image row xid scn =
+    (image.lock row ≡ 0) ⊎ (((image.slot (image.lock row)).xid ≡ xid) ⊎ IsSomeAnd (committed (image.slot (image.lock row)).xid) (λ end. end < scn))
 
 -- The slot is the own one; or no slot is, and it was never used, or its transaction committed below an SCN.
 abbrev pub IsChosen : (Xid → Option ℕ) → Image → ℕ → Xid → ℕ → Type 0
-IsChosen committed image k x scn =
-    ((image.slot k).xid ≡ x)
-    ⊎ (((j : ℕ) → 1 ≤ j → j ≤ 4 → same_xid x (image.slot j).xid ≡ false)
-    × (((image.slot k).xid.wrap ≡ 0) ⊎ IsSomeAnd (committed (image.slot k).xid) (λ c. c < scn)))
+IsChosen committed image itl xid scn =
+    ((image.slot itl).xid ≡ xid)
+    ⊎ (((other : ℕ) → 1 ≤ other → other ≤ 4 → same_xid xid (image.slot other).xid ≡ false)
+    × (((image.slot itl).xid.wrap ≡ 0) ⊎ IsSomeAnd (committed (image.slot itl).xid) (λ end. end < scn)))
 
 -- undo keeps what the block has
-pub record KeepsUndo (image : Image) (m : Deed) : Type 0 where
-  pub old : m.old ≡ image.value m.row
-  pub slot : m.old_itl ≡ image.slot m.itl
-  pub mine : m.mine ≡ held_by m.xid image m.row
+pub record KeepsUndo (image : Image) (deed : Deed) : Type 0 where
+  pub old : deed.old ≡ image.value deed.row
+  pub slot : deed.old_itl ≡ image.slot deed.itl
+  pub mine : deed.mine ≡ held_by deed.xid image deed.row
 
 -- A deed is one that the rules make on the block as it stands.
-pub record IsMade (committed : Xid → Option ℕ) (image : Image) (m : Deed) : Type 0 where
-  pub goes_on : committed m.xid ≡ None
-  pub placed : IsPlaced m
-  pub scn : image.scn < m.scn
-  pub version : m.version ≡ image.version + 1
-  pub undo : KeepsUndo image m
-  pub value : m.puts ≡ false → m.value ≡ image.value m.row
-  pub free : IsFree committed image m.row m.xid m.scn
-  pub chosen : IsChosen committed image m.itl m.xid m.scn
+pub record IsMade (committed : Xid → Option ℕ) (image : Image) (deed : Deed) : Type 0 where
+  pub goes_on : committed deed.xid ≡ None
+  pub placed : IsPlaced deed
+  pub scn : image.scn < deed.scn
+  pub version : deed.version ≡ image.version + 1
+  pub undo : KeepsUndo image deed
+  pub value : deed.puts ≡ false → deed.value ≡ image.value deed.row
+  pub free : IsFree committed image deed.row deed.xid deed.scn
+  pub chosen : IsChosen committed image deed.itl deed.xid deed.scn

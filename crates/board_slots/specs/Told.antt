@@ -16,62 +16,64 @@ use Rattle.cr_copy.specs.declared.made.Made.{Made}
 use Rattle.cr_copy.specs.declared.made.Made.TheVariants.{Need, Rows, TooOld}
 use Rattle.board_slots.specs.Views.{IsWritten, undo_of}
 
+-- an end, if there is one, is at the snapshot or before
 abbrev pub is_up_to : ℕ → Option ℕ → Bool
-is_up_to s None = false
-is_up_to s (Some e) = nat_le e s
+is_up_to snapshot None = false
+is_up_to snapshot (Some end) = nat_le end snapshot
 
--- whether a transaction ended at s or before
+-- whether a transaction ended at the snapshot or before
 abbrev pub ended_by : ℕ → (Xid → Option ℕ) → Xid → Bool
-ended_by s ended x = is_up_to s (ended x)
+ended_by snapshot ended xid = is_up_to snapshot (ended xid)
 
 -- a header tells the end of a transaction, exactly or by a bound
 abbrev pub IsLook : Option ℕ → Look → Type 0
 IsLook end Unlooked = Unit {0}
 IsLook end Active = end ≡ None
-IsLook end (Ended e) = end ≡ Some e
-IsLook end (ReusedBelow e found) = IsSomeAnd end (λ c. c ≤ e)
+IsLook end (Ended told) = end ≡ Some told
+IsLook end (ReusedBelow bound found) = IsSomeAnd end (λ scn. scn ≤ bound)
 
 -- What is told of a change that stands in the image: the end of its transaction at the moment of its header. Who had
 -- committed at the image's moment has that end; each end is above what its transaction did.
-pub record IsTold (number : ℕ) (committed ended : Xid → Option ℕ) (look : Xid → Look) (fetch : Xid → ℕ → Fetch) (m : Deed) : Type 0 where
-  pub stays : (c : ℕ) → committed m.xid ≡ Some c → ended m.xid ≡ Some c
-  pub above : IfSome (ended m.xid) (λ e. m.scn < e)
-  pub looks : IsLook (ended m.xid) (look m.xid)
-  pub fetched : IsWritten (undo_of number m) (fetch m.xid m.seq)
+pub record IsTold (number : ℕ) (committed ended : Xid → Option ℕ) (look : Xid → Look) (fetch : Xid → ℕ → Fetch) (deed : Deed) : Type 0 where
+  pub stays : (scn : ℕ) → committed deed.xid ≡ Some scn → ended deed.xid ≡ Some scn
+  pub above : IfSome (ended deed.xid) (λ end. deed.scn < end)
+  pub looks : IsLook (ended deed.xid) (look deed.xid)
+  pub fetched : IsWritten (undo_of number deed) (fetch deed.xid deed.seq)
 
 -- the SCN of a transaction's end, by the records up to a moment
 abbrev pub end_after : Xid → Record → Option ℕ → Option ℕ
-end_after x (Commits c y) before = if same_xid x y then Some c else before
-end_after x (RollsBack c y) before = if same_xid x y then Some c else before
-end_after x _ before = before
+end_after xid (Commits scn other) before = if same_xid xid other then Some scn else before
+end_after xid (RollsBack scn other) before = if same_xid xid other then Some scn else before
+end_after xid _ before = before
 
+-- the SCN of a transaction's end by these records
 abbrev pub ended : List Record → Xid → Option ℕ
-ended [] x = None
-ended (r ∷ older) x = end_after x r (ended older x)
+ended [] xid = None
+ended (latest ∷ older) xid = end_after xid latest (ended older xid)
 
--- The slot of a transaction was used again at least twice, and it ended at or below an SCN that is above s.
+-- The slot of a transaction was used again at least twice, and it ended at or below an SCN that is above the snapshot.
 abbrev pub IsReusedAbove : ℕ → ℕ → Look → Type 0
-IsReusedAbove s found (ReusedBelow e now) = (s < e) × (now ≡ found)
-IsReusedAbove s found _ = ⊥
+IsReusedAbove snapshot found (ReusedBelow bound now) = (snapshot < bound) × (now ≡ found)
+IsReusedAbove snapshot found _ = ⊥
 
 -- What is wanted is the header or the undo record of a deed, and it isn't at hand.
 abbrev pub IsWanted : (Xid → Look) → (Xid → ℕ → Fetch) → Deed → Wanted → Type 0
-IsWanted look fetch m (Head seg) = (m.xid.seg ≡ seg) × (look m.xid ≡ Unlooked)
-IsWanted look fetch m (Undo at) = (at ≡ record { seg = m.xid.seg; seq = m.seq }) × (fetch m.xid m.seq ≡ Unfetched)
+IsWanted look fetch deed (Head seg) = (deed.xid.seg ≡ seg) × (look deed.xid ≡ Unlooked)
+IsWanted look fetch deed (Undo at) = (at ≡ record { seg = deed.xid.seg; seq = deed.seq }) × (fetch deed.xid deed.seq ≡ Unfetched)
 
 -- What is gone is the end of a deed's transaction, or its undo record.
 abbrev pub IsGone : ℕ → (Xid → Look) → (Xid → ℕ → Fetch) → Deed → Cause → Type 0
-IsGone s look fetch m (OldSlot x found) = (m.xid ≡ x) × IsReusedAbove s found (look m.xid)
-IsGone s look fetch m (OldUndo x wanted found) = (m.xid ≡ x) × (m.seq ≡ wanted) × (fetch m.xid m.seq ≡ Reused found)
-IsGone s look fetch m _ = ⊥
+IsGone snapshot look fetch deed (OldSlot xid found) = (deed.xid ≡ xid) × IsReusedAbove snapshot found (look deed.xid)
+IsGone snapshot look fetch deed (OldUndo xid wanted found) = (deed.xid ≡ xid) × (deed.seq ≡ wanted) × (fetch deed.xid deed.seq ≡ Reused found)
+IsGone snapshot look fetch deed _ = ⊥
 
 -- A deed is why a copy has no rows.
 abbrev pub Stops : ℕ → (Xid → Look) → (Xid → ℕ → Fetch) → Made → Deed → Type 0
-Stops s look fetch (Need wanted) m = IsWanted look fetch m wanted
-Stops s look fetch (TooOld cause) m = IsGone s look fetch m cause
-Stops s look fetch _ m = ⊥
+Stops snapshot look fetch (Need wanted) deed = IsWanted look fetch deed wanted
+Stops snapshot look fetch (TooOld cause) deed = IsGone snapshot look fetch deed cause
+Stops snapshot look fetch _ deed = ⊥
 
 -- A copy has rows, or one of the deeds that stand is why it has none.
 abbrev pub HasReason : ℕ → (Xid → Look) → (Xid → ℕ → Fetch) → List Deed → Made → Type 0
-HasReason s look fetch deeds (Rows rows) = Unit {0}
-HasReason s look fetch deeds made = Any (Stops s look fetch made) deeds
+HasReason snapshot look fetch deeds (Rows rows) = Unit {0}
+HasReason snapshot look fetch deeds made = Any (Stops snapshot look fetch made) deeds

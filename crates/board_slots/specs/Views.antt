@@ -13,38 +13,38 @@ use Rattle.board_slots.specs.Block.{Deed, newest, puts_on, value_of}
 
 -- the view: what a row holds by the changes of the transactions that a test admits
 abbrev pub view : (Xid → Bool) → List Deed → ℕ → Value
-view test deeds r = value_of (newest (λ m. puts_on r m && test m.xid) deeds)
+view test deeds row = value_of (newest (λ deed. puts_on row deed && test deed.xid) deeds)
 
 -- a row of a copy, by its number
 abbrev pub value_at : List Value → ℕ → Value
-value_at rows r = slice_index_or rows r Absent
+value_at rows row = slice_index_or rows row Absent
 
 -- the undo record of a deed in the block with this number
 abbrev pub undo_of : ℕ → Deed → UndoRecord
-undo_of number m =
+undo_of number deed =
     record {
-      seq = m.seq;
-      slot = m.xid.slot;
-      itl = m.itl;
-      row = m.row;
-      mine = m.mine;
-      wrap = m.xid.wrap;
+      seq = deed.seq;
+      slot = deed.xid.slot;
+      itl = deed.itl;
+      row = deed.row;
+      mine = deed.mine;
+      wrap = deed.xid.wrap;
       block = number;
-      version = m.version;
-      prev = m.prev;
-      old_itl = m.old_itl;
-      old = m.old;
+      version = deed.version;
+      prev = deed.prev;
+      old_itl = deed.old_itl;
+      old = deed.old;
     }
 
 -- What stands in the place of an undo record, where that is at hand, is this one or another one, and never nothing.
 abbrev pub IsWritten : UndoRecord → Fetch → Type 0
-IsWritten u (Has found) = found ≡ u
-IsWritten u Never = ⊥
-IsWritten u _ = Unit {0}
+IsWritten undo (Has found) = found ≡ undo
+IsWritten undo Never = ⊥
+IsWritten undo _ = Unit {0}
 
--- Whom the reader has changed a row after had committed up to s.
+-- Whoever changed or locked a row before the reader did had committed up to the snapshot.
 abbrev pub ReaderFollows : (Xid → Option ℕ) → ℕ → Option Xid → List Deed → Type 0
-ReaderFollows committed s me [] = Unit {0}
-ReaderFollows committed s me (m ∷ deeds) =
-    (is_own me m.xid ≡ true → AllByRecursion (λ o. (m.row == o.row) ≡ true → same_xid m.xid o.xid ≡ false → IsSomeAnd (committed o.xid) (λ c. c ≤ s)) deeds)
-    × ReaderFollows committed s me deeds
+ReaderFollows committed snapshot me [] = Unit {0}
+ReaderFollows committed snapshot me (deed ∷ deeds) =
+    (is_own me deed.xid ≡ true → AllByRecursion (λ under. (deed.row == under.row) ≡ true → same_xid deed.xid under.xid ≡ false → IsSomeAnd (committed under.xid) (λ end. end ≤ snapshot)) deeds)
+    × ReaderFollows committed snapshot me deeds

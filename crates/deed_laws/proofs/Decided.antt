@@ -1,5 +1,5 @@
 -- How a change came about that was decided.
-use Rattle.std.proofs.Common.{◌≡◌, ℕ, ◌+◌, ◌%◌, ◌<◌, ◌≤◌, ◌&&◌, Bool, true, false, cond, refl, arith}
+use Rattle.std.proofs.Common.{◌≡◌, ℕ, ◌+◌, ◌%◌, ◌&&◌, Bool, true, false, cond, refl, arith}
 use Rattle.std.specs.Prelude.{Option, Some, None, Result, Ok, Err, nat_lt}
 use Rattle.std.proofs.lemmas.Bool.Decides.{nat_tests}
 use Rattle.base_types.specs.declared.names.Scn.{Scn}
@@ -21,7 +21,7 @@ use Rattle.scn_clock.specs.declared.clock.Clock.{Clock}
 use Rattle.journal.specs.declared.cause.Cause.{Cause}
 use Rattle.txn_engine.specs.declared.ask.ChangeAsk.{ChangeAsk}
 use Rattle.txn_engine.specs.declared.ask.Decision.{Decision}
-use Rattle.txn_engine.specs.declared.ask.Decision.TheVariants.{Bad, Do, ForceFirst, Restart}
+use Rattle.txn_engine.specs.declared.ask.Decision.TheVariants.{Do, ForceFirst, Restart}
 use Rattle.txn_engine.specs.declared.made.Plan.{Plan}
 use Rattle.txn_engine.specs.Change.{change_decision, change_record, free_decision, is_lock, is_within_limits, late_decision, lock_decision, may_wait, own_or_next, room_decision, slot_decision, txn_decision, value_after, value_decision}
 use Rattle.board_slots.specs.Decide.{GoesOn}

@@ -1,25 +1,19 @@
 -- A record that was decided is that of a deed.
-use Rattle.std.proofs.Common.{◌≡◌, ℕ, ◌+◌, ◌-◌, ◌%◌, ◌<◌, ◌≤◌, ◌&&◌, ◌==◌, Bool, true, false, cond, not, List, refl, sym, ap, ◌∙◌, subst, arith, mod-lt}
-use Rattle.std.specs.Prelude.{Option, Some, None, Result, Ok, IsSomeAnd}
+use Rattle.std.proofs.Common.{◌≡◌, ℕ, ◌+◌, ◌%◌, ◌<◌, ◌≤◌, ◌&&◌, ◌==◌, Bool, true, false, cond, not, List, refl, sym, ap, ◌∙◌, subst, arith, mod-lt}
+use Rattle.std.specs.Prelude.{Some, None, Ok}
 use Rattle.base_types.specs.declared.names.Scn.{Scn}
-use Rattle.base_types.specs.declared.names.Xid.{Xid}
 use Rattle.base_types.specs.declared.value.Value.{Value}
-use Rattle.redo_types.specs.declared.blocks.RowChange.{RowChange}
 use Rattle.redo_types.specs.declared.redo.Redo.{Redo}
-use Rattle.redo_types.specs.declared.redo.RedoKind.{RedoKind}
 use Rattle.redo_types.specs.declared.redo.RedoKind.TheVariants.{Change, Lock}
-use Rattle.redo_types.specs.declared.undo.UndoRecord.{UndoRecord}
 use Rattle.block_image.specs.Block.{BlockContent, row_at}
-use Rattle.block_image.specs.Block.{slot_at as itl_at}
 use Rattle.undo_image.specs.Header.{slot_at}
 use Rattle.undo_segment.specs.Handed.{HandedState}
 use Rattle.undo_segment.specs.Segment.{look, SegmentState}
 use Rattle.txn_slots.specs.declared.choice.SlotAnswer.TheVariants.{Take}
 use Rattle.txn_slots.specs.Choice.{choose_slot}
-use Rattle.txn_slots.specs.Lock.{lock_row, locker}
+use Rattle.txn_slots.specs.Lock.{lock_row}
 use Rattle.txn_slots.specs.Own.{is_own}
 use Rattle.scn_clock.specs.declared.clock.Clock.{Clock}
-use Rattle.cr_copy.specs.Named.{IsNamed}
 use Rattle.redo_record.specs.Redo.{IsRedo, NamesUndo}
 use Rattle.journal.specs.Past.{same_xid}
 use Rattle.txn_engine.specs.declared.ask.ChangeAsk.{ChangeAsk}
@@ -29,15 +23,15 @@ use Rattle.txn_engine.specs.declared.ask.Wish.TheVariants as wish
 use Rattle.txn_engine.specs.declared.made.Plan.{Plan}
 use Rattle.txn_engine.specs.Change.{change_decision, change_record, holds, is_lock, kind_of, row_made, stood_last, undo_change, undo_made, value_after}
 use Rattle.txn_engine.specs.Parts.{data_change}
-use Rattle.board_slots.specs.Block.{change_of, content, Deed, held_by, Image, Record, stands, committed}
+use Rattle.board_slots.specs.Block.{change_of, content, Deed, held_by, Record, stands, committed}
 use Rattle.board_slots.specs.Decide.{decided, GoesOn, MayDecide, NewestIsFree}
 use Rattle.board_slots.specs.Images.{IsSeen}
 use Rattle.board_slots.specs.Records.{MayDo, Sound}
 use Rattle.board_slots.specs.Slots.{IsChosen}
 use Rattle.board_slots.specs.Views.{undo_of}
-use Rattle.board_slots.proofs.Deciding.{decides, goes-on, locker-is, named_of, newest-free, slot-chosen}
+use Rattle.board_slots.proofs.Deciding.{decides, goes-on, locker-is, newest-free, slot-chosen}
 use Rattle.deed_laws.specs.Deeds.{IsRedoOf}
-use Rattle.deed_laws.proofs.Decided.{decided_is, IsPlanned}
+use Rattle.deed_laws.proofs.Decided.{decided_is}
 
 -- a lock leaves the value
 lock-leaves : (w : Wish) (found value : Value) → value_after w found ≡ Ok value → is_lock w ≡ true → value ≡ found

@@ -1,16 +1,13 @@
 -- A step back that was decided is one that the rules make.
-use Rattle.std.proofs.Common.{◌≡◌, ℕ, ◌+◌, ◌<◌, Bool, true, false, cond, List, refl, sym, ap, ◌∙◌, subst, arith}
+use Rattle.std.proofs.Common.{◌≡◌, ◌+◌, ◌<◌, Bool, true, false, cond, List, refl, subst, arith}
 use Rattle.std.specs.Prelude.{Option, Some, None}
 use Rattle.base_types.specs.declared.names.Xid.{Xid}
-use Rattle.redo_types.specs.declared.blocks.RowChange.{RowChange}
 use Rattle.redo_types.specs.declared.redo.Redo.{Redo}
-use Rattle.redo_types.specs.declared.undo.UndoRecord.{UndoRecord}
 use Rattle.block_image.specs.Block.{BlockContent}
 use Rattle.undo_segment.specs.Segment.{SegmentState}
 use Rattle.scn_clock.specs.declared.clock.Clock.{Clock}
-use Rattle.txn_engine.specs.declared.back.NextBack.{NextBack}
 use Rattle.txn_engine.specs.declared.back.NextBack.TheVariants.{Undo}
-use Rattle.txn_engine.specs.Back.{back_decision, back_of, back_record, may_step_back, next_back, row_back}
+use Rattle.txn_engine.specs.Back.{back_decision, back_record, may_step_back, next_back, row_back}
 use Rattle.txn_engine.specs.Parts.{data_change}
 use Rattle.board_slots.specs.Block.{by, committed, content, Deed, newest, Open, Record, stage, stands}
 use Rattle.board_slots.specs.Images.{IsSeen}
@@ -37,7 +34,7 @@ module _ (records : List Record) (x : Xid) (m : Deed) (image : BlockContent) (se
 
   made-back : image.front.scn < clock.scn + 1 → TakesBackBy (λ change. MayBack records x m.seq (clock.scn + 1) change) (back_record x (undo_of image.front.number m) segment.head image (clock.scn + 1))
   unfolding back_record data_change
-  made-back up = record { kind = refl; row = record { goes_on = goes_on; m = m; newest_own = newest_own; number = refl; does = row-is; up = (let same = seen.scn in omega arith) } }
+  made-back up = record { kind = refl; row = record { goes_on = goes_on; deed = m; newest_own = newest_own; number = refl; does = row-is; up = (let same = seen.scn in omega arith) } }
 
   pub decided-back : (redo : Redo) → next_back x segment ≡ Undo (undo_of image.front.number m) → image.front.scn < redo.scn → back_decision x segment image clock ≡ Some redo → TakesBackBy (λ change. MayBack records x redo.seq redo.scn change) redo
   unfolding back_record

@@ -26,15 +26,15 @@ pub fn decided_records_are_deeds()
         (on_disk : Scn) (redo : Redo) → Sound records → IsSeen image (content records) →
         change_decision ask image segment handed clock on_disk ≡ Do redo → IsRedo redo →
         MayDecide records ask.own redo.xid (look segment handed) ask.snapshot redo.scn →
-        (m : Deed) × IsRedoOf image.front.number m redo × MayDo records m × NewestIsFree records redo.xid ask.snapshot m.row }
+        (deed : Deed) × IsRedoOf image.front.number deed redo × MayDo records deed × NewestIsFree records redo.xid ask.snapshot deed.row }
 {}
 
 /// A law: the record of a step back that is decided, of the newest deed of an open transaction in the block, is one that
 /// the rules make.
 pub fn decided_steps_back_are_made_by_the_rules()
-    ensures { (records : List Record) (x : Xid) (m : Deed) (image : BlockContent) (segment : SegmentState) (clock : Clock) (redo : Redo) →
-        Sound records → IsSeen image (content records) → stage x records ≡ Open → newest (by x) (stands records) ≡ Some m →
-        next_back x segment ≡ Undo (undo_of image.front.number m) → image.front.scn < redo.scn →
-        back_decision x segment image clock ≡ Some redo →
-        TakesBackBy (λ change. MayBack records x redo.seq redo.scn change) redo }
+    ensures { (records : List Record) (xid : Xid) (deed : Deed) (image : BlockContent) (segment : SegmentState) (clock : Clock) (redo : Redo) →
+        Sound records → IsSeen image (content records) → stage xid records ≡ Open → newest (by xid) (stands records) ≡ Some deed →
+        next_back xid segment ≡ Undo (undo_of image.front.number deed) → image.front.scn < redo.scn →
+        back_decision xid segment image clock ≡ Some redo →
+        TakesBackBy (λ change. MayBack records xid redo.seq redo.scn change) redo }
 {}
