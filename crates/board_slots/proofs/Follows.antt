@@ -54,7 +54,7 @@ follows-kept records (Does m) s me may free h = ((λ e. all_map (λ o. on_row m.
   where
     one : (o : Deed) → (on_row m.row o ≡ true → (o.xid ≡ m.xid) ⊎ IsSomeAnd (committed records o.xid) (λ c. c ≤ s)) → OverSeen (committed records) s m o
     one o f r d = elim (f (rw (eqb-true m.row o.row r) (eq-eqb o.row o.row refl))) [ inl is ↦ clash (same_xid m.xid o.xid) (rw is (same_xid-refl m.xid)) d | inr l ↦ l ]
-follows-kept records (TakesBack x seq scn change) s me may free h = follows-without (committed records) s me x seq (stands records) h
+follows-kept records (TakesBack inst x seq scn change) s me may free h = follows-without (committed records) s me x seq (stands records) h
 follows-kept records (Commits c x) s me may free h = follows-grows (committed records) (committed (Commits c x ∷ records)) s s me (stands records) (omega arith) grows h
   where
     grows : (y : Xid) (P : ℕ → Type 0) → IsSomeAnd (committed records y) P → IsSomeAnd (committed (Commits c x ∷ records) y) P
@@ -63,9 +63,9 @@ follows-kept records (Commits c x) s me may free h = follows-grows (committed re
         here : (t : Bool) → same_xid y x ≡ t → IsSomeAnd (commit_in (cond t (Over (Some c)) (stage y records))) P
         here false e = h
         here true e = absurd (no-commit (committed records y) P (rw (same_xid-true y x e) (ap commit_in may.goes_on)) h)
-follows-kept records (RollsBack c x) s me may free h = follows-grows (committed records) (committed (RollsBack c x ∷ records)) s s me (stands records) (omega arith) grows h
+follows-kept records (RollsBack inst c x) s me may free h = follows-grows (committed records) (committed (RollsBack inst c x ∷ records)) s s me (stands records) (omega arith) grows h
   where
-    grows : (y : Xid) (P : ℕ → Type 0) → IsSomeAnd (committed records y) P → IsSomeAnd (committed (RollsBack c x ∷ records) y) P
+    grows : (y : Xid) (P : ℕ → Type 0) → IsSomeAnd (committed records y) P → IsSomeAnd (committed (RollsBack inst c x ∷ records) y) P
     grows y P h = here (same_xid y x) refl
       where
         here : (t : Bool) → same_xid y x ≡ t → IsSomeAnd (commit_in (cond t (Over None) (stage y records))) P

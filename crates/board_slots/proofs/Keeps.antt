@@ -48,8 +48,8 @@ taken_out x m (n ∷ newer) older e none = rw none.0 (ap (λ xs. n ∷ xs) (take
 all_without : (P : Deed → Type 0) (newer older : List Deed) (m : Deed) → AllByRecursion P (newer ++ m ∷ older) → AllByRecursion P (newer ++ older)
 all_without P newer older m h = let parts = all_append P newer (m ∷ older) h in all_join P newer older parts.0 parts.1.1
 
-keeps-back : (records : List Record) (x : Xid) (seq scn : ℕ) → (m : Deed) → stage x records ≡ Open → newest (by x) (stands records) ≡ Some m → seq ≡ m.seq → (content records).scn < scn → Sound records → Sound (TakesBack x seq scn (back_of m (content records)) ∷ records)
-keeps-back records x seq scn m goes_on top number up sound =
+keeps-back : (records : List Record) (inst : ℕ) (x : Xid) (seq scn : ℕ) → (m : Deed) → stage x records ≡ Open → newest (by x) (stands records) ≡ Some m → seq ≡ m.seq → (content records).scn < scn → Sound records → Sound (TakesBack inst x seq scn (back_of m (content records)) ∷ records)
+keeps-back records inst x seq scn m goes_on top number up sound =
     let left : without x seq (stands records) ≡ s.newer ++ s.older = ap (λ xs. without x seq xs) s.place ∙ rw number (taken_out x m s.newer s.older s.passes s.none) in
     record {
       orderly = rw left (orderly-without (committed records) m s.newer s.older clear placed);
@@ -88,9 +88,9 @@ rest_without P x seq (m ∷ deeds) h = here (is_that x seq m) (rest_without P x 
 pub stands-from : (P : Deed → Type 0) (records : List Record) → AllByRecursion (OfRecord P) records → AllByRecursion P (stands records)
 stands-from P [] n = tt
 stands-from P (Does m ∷ records) n = (n.0, stands-from P records n.1)
-stands-from P (TakesBack x seq scn change ∷ records) n = rest_without P x seq (stands records) (stands-from P records n.1)
+stands-from P (TakesBack inst x seq scn change ∷ records) n = rest_without P x seq (stands records) (stands-from P records n.1)
 stands-from P (Commits c x ∷ records) n = stands-from P records n.1
-stands-from P (RollsBack c x ∷ records) n = stands-from P records n.1
+stands-from P (RollsBack inst c x ∷ records) n = stands-from P records n.1
 
 keeps-commit : (records : List Record) (c : ℕ) (x : Xid) → MayCommit records c x → Sound records → Sound (Commits c x ∷ records)
 keeps-commit records c x may sound =
@@ -109,9 +109,9 @@ keeps-commit records c x may sound =
 
     below_of : (r : Record) → DeedsBelow x c r → OfRecord (λ m. by x m ≡ true → m.scn < c) r
     below_of (Does m) h = h
-    below_of (TakesBack y seq scn change) h = tt
+    below_of (TakesBack inst y seq scn change) h = tt
     below_of (Commits d y) h = tt
-    below_of (RollsBack d y) h = tt
+    below_of (RollsBack inst d y) h = tt
 
     one : (m : Deed) → (by x m ≡ true → m.scn < c) → IsFair (committed records) m → IfSome (committed (Commits c x ∷ records) m.xid) (λ c. m.scn < c)
     one m above fair = here (same_xid m.xid x) refl
@@ -130,28 +130,28 @@ keeps-commit records c x may sound =
         here false = h
         here true = λ e. (cc)
 
-keeps-roll : (records : List Record) (c : ℕ) (x : Xid) → MayRoll records c x → Sound records → Sound (RollsBack c x ∷ records)
-keeps-roll records c x may sound =
+keeps-roll : (records : List Record) (inst c : ℕ) (x : Xid) → MayRoll records c x → Sound records → Sound (RollsBack inst c x ∷ records)
+keeps-roll records inst c x may sound =
     record {
-      orderly = orderly-grows (committed records) (committed (RollsBack c x ∷ records)) grows (stands records) below sound.orderly;
-      shows = shows-grows (committed records) (committed (RollsBack c x ∷ records)) grows (content records) (stands records) sound.shows;
-      ends = all_both (λ m. by x m ≡ false) (λ m. stage m.xid records ≢ Over None) (λ m. stage m.xid (RollsBack c x ∷ records) ≢ Over None) (stands records) ends (newest-none (by x) (stands records) may.none) sound.ends;
+      orderly = orderly-grows (committed records) (committed (RollsBack inst c x ∷ records)) grows (stands records) below sound.orderly;
+      shows = shows-grows (committed records) (committed (RollsBack inst c x ∷ records)) grows (content records) (stands records) sound.shows;
+      ends = all_both (λ m. by x m ≡ false) (λ m. stage m.xid records ≢ Over None) (λ m. stage m.xid (RollsBack inst c x ∷ records) ≢ Over None) (stands records) ends (newest-none (by x) (stands records) may.none) sound.ends;
     }
   where
-    same : (y : Xid) → committed (RollsBack c x ∷ records) y ≡ committed records y
+    same : (y : Xid) → committed (RollsBack inst c x ∷ records) y ≡ committed records y
     same y = here (same_xid y x) refl
       where
         here : (t : Bool) → same_xid y x ≡ t → commit_in (cond t (Over None) (stage y records)) ≡ commit_in (stage y records)
         here false e = refl
         here true e = sym (rw (same_xid-true y x e) (ap commit_in may.goes_on))
 
-    grows : (y : Xid) (P : ℕ → Type 0) → IsSomeAnd (committed records y) P → IsSomeAnd (committed (RollsBack c x ∷ records) y) P
+    grows : (y : Xid) (P : ℕ → Type 0) → IsSomeAnd (committed records y) P → IsSomeAnd (committed (RollsBack inst c x ∷ records) y) P
     grows y P h = subst (λ o. IsSomeAnd o P) (sym (same y)) h
 
-    below : AllByRecursion (λ m. IfSome (committed (RollsBack c x ∷ records) m.xid) (λ c. m.scn < c)) (stands records)
-    below = all_map (IsFair (committed records)) (λ m. IfSome (committed (RollsBack c x ∷ records) m.xid) (λ c. m.scn < c)) (stands records) (λ m f. subst (λ o. IfSome o (λ c. m.scn < c)) (sym (same m.xid)) f.below) (fair-all (committed records) (stands records) sound.orderly)
+    below : AllByRecursion (λ m. IfSome (committed (RollsBack inst c x ∷ records) m.xid) (λ c. m.scn < c)) (stands records)
+    below = all_map (IsFair (committed records)) (λ m. IfSome (committed (RollsBack inst c x ∷ records) m.xid) (λ c. m.scn < c)) (stands records) (λ m f. subst (λ o. IfSome o (λ c. m.scn < c)) (sym (same m.xid)) f.below) (fair-all (committed records) (stands records) sound.orderly)
 
-    ends : (m : Deed) → by x m ≡ false → stage m.xid records ≢ Over None → stage m.xid (RollsBack c x ∷ records) ≢ Over None
+    ends : (m : Deed) → by x m ≡ false → stage m.xid records ≢ Over None → stage m.xid (RollsBack inst c x ∷ records) ≢ Over None
     ends m off h = here (same_xid m.xid x) refl
       where
         here : (t : Bool) → same_xid m.xid x ≡ t → cond t (Over None) (stage m.xid records) ≢ Over None
@@ -165,9 +165,9 @@ keeps records (Does m) may sound =
       shows = made-shows (committed records) (content records) (stands records) m sound.orderly sound.shows may.made;
       ends = ((λ e. let bad : Open ≡ Over None = sym may.goes_on ∙ e in cc), sound.ends);
     }
-keeps records (TakesBack x seq scn change) may sound = subst (λ change. Sound (TakesBack x seq scn change ∷ records)) (sym may.does) (keeps-back records x seq scn may.deed may.goes_on may.newest_own may.number may.up sound)
+keeps records (TakesBack inst x seq scn change) may sound = subst (λ change. Sound (TakesBack inst x seq scn change ∷ records)) (sym may.does) (keeps-back records inst x seq scn may.deed may.goes_on may.newest_own may.number may.up sound)
 keeps records (Commits c x) may sound = keeps-commit records c x may sound
-keeps records (RollsBack c x) may sound = keeps-roll records c x may sound
+keeps records (RollsBack inst c x) may sound = keeps-roll records inst c x may sound
 
 pub sound-empty : Sound []
 sound-empty = record { orderly = tt; shows = record { values = λ r. refl; slots = λ k. refl; locks = λ r. refl; low = tt }; ends = tt }

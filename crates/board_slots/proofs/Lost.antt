@@ -13,15 +13,15 @@ use Rattle.board_slots.specs.Losses.{TouchIsKept, CommitIsKept, ReasonsAreKept, 
 same-block : (keep : Record → Bool) (older : List Record) → AllByRecursion (TouchIsKept keep) older → (content (filter keep older) ≡ content older) × (stands (filter keep older) ≡ stands older)
 same-block keep [] h = (refl, refl)
 same-block keep (Does m ∷ older) h = let ih = same-block keep older h.1 in rw h.0 (ap (image_after (Does m)) ih.0, ap (stands_after (Does m)) ih.1)
-same-block keep (TakesBack x seq scn change ∷ older) h = let ih = same-block keep older h.1 in rw h.0 (ap (image_after (TakesBack x seq scn change)) ih.0, ap (stands_after (TakesBack x seq scn change)) ih.1)
+same-block keep (TakesBack inst x seq scn change ∷ older) h = let ih = same-block keep older h.1 in rw h.0 (ap (image_after (TakesBack inst x seq scn change)) ih.0, ap (stands_after (TakesBack inst x seq scn change)) ih.1)
 same-block keep (Commits c x ∷ older) h = here (keep (Commits c x)) (same-block keep older h.1)
   where
     here : (t : Bool) → (content (filter keep older) ≡ content older) × (stands (filter keep older) ≡ stands older) → (content (cond t (Commits c x ∷ filter keep older) (filter keep older)) ≡ content older) × (stands (cond t (Commits c x ∷ filter keep older) (filter keep older)) ≡ stands older)
     here true ih = ih
     here false ih = ih
-same-block keep (RollsBack c x ∷ older) h = here (keep (RollsBack c x)) (same-block keep older h.1)
+same-block keep (RollsBack inst c x ∷ older) h = here (keep (RollsBack inst c x)) (same-block keep older h.1)
   where
-    here : (t : Bool) → (content (filter keep older) ≡ content older) × (stands (filter keep older) ≡ stands older) → (content (cond t (RollsBack c x ∷ filter keep older) (filter keep older)) ≡ content older) × (stands (cond t (RollsBack c x ∷ filter keep older) (filter keep older)) ≡ stands older)
+    here : (t : Bool) → (content (filter keep older) ≡ content older) × (stands (filter keep older) ≡ stands older) → (content (cond t (RollsBack inst c x ∷ filter keep older) (filter keep older)) ≡ content older) × (stands (cond t (RollsBack inst c x ∷ filter keep older) (filter keep older)) ≡ stands older)
     here true ih = ih
     here false ih = ih
 
@@ -33,9 +33,9 @@ open-kept keep x (Does m ∷ older) e = here (keep (Does m)) (open-kept keep x o
     here : (t : Bool) → stage x (filter keep older) ≡ Open → stage x (cond t (Does m ∷ filter keep older) (filter keep older)) ≡ Open
     here true ih = ih
     here false ih = ih
-open-kept keep x (TakesBack y seq scn change ∷ older) e = here (keep (TakesBack y seq scn change)) (open-kept keep x older e)
+open-kept keep x (TakesBack inst y seq scn change ∷ older) e = here (keep (TakesBack inst y seq scn change)) (open-kept keep x older e)
   where
-    here : (t : Bool) → stage x (filter keep older) ≡ Open → stage x (cond t (TakesBack y seq scn change ∷ filter keep older) (filter keep older)) ≡ Open
+    here : (t : Bool) → stage x (filter keep older) ≡ Open → stage x (cond t (TakesBack inst y seq scn change ∷ filter keep older) (filter keep older)) ≡ Open
     here true ih = ih
     here false ih = ih
 open-kept keep x (Commits c y ∷ older) e = here (keep (Commits c y)) (same_xid x y) refl e (open-kept keep x older)
@@ -44,9 +44,9 @@ open-kept keep x (Commits c y ∷ older) e = here (keep (Commits c y)) (same_xid
     here t true f e ih = absurd (let bad : Over (Some c) ≡ Open = e in cc)
     here true false f e ih = rw f (ih e)
     here false false f e ih = ih e
-open-kept keep x (RollsBack c y ∷ older) e = here (keep (RollsBack c y)) (same_xid x y) refl e (open-kept keep x older)
+open-kept keep x (RollsBack inst c y ∷ older) e = here (keep (RollsBack inst c y)) (same_xid x y) refl e (open-kept keep x older)
   where
-    here : (t s : Bool) → same_xid x y ≡ s → cond s (Over None) (stage x older) ≡ Open → (stage x older ≡ Open → stage x (filter keep older) ≡ Open) → stage x (cond t (RollsBack c y ∷ filter keep older) (filter keep older)) ≡ Open
+    here : (t s : Bool) → same_xid x y ≡ s → cond s (Over None) (stage x older) ≡ Open → (stage x older ≡ Open → stage x (filter keep older) ≡ Open) → stage x (cond t (RollsBack inst c y ∷ filter keep older) (filter keep older)) ≡ Open
     here t true f e ih = absurd (let bad : Over None ≡ Open = e in cc)
     here true false f e ih = rw f (ih e)
     here false false f e ih = ih e
@@ -86,11 +86,11 @@ may-kept keep older (Does m) reasons may =
         chosen = elim may.made.chosen [ inl x ↦ inl x | inr f ↦ inr (f.0, elim f.1 [ inl z ↦ inl z | inr c ↦ inr (below-kept keep older ((content older).slot m.itl).xid m.scn reasons.2 c) ]) ];
       });
     }
-may-kept keep older (TakesBack x seq scn change) reasons may =
+may-kept keep older (TakesBack inst x seq scn change) reasons may =
     let same = same-block keep older reasons in
     record { goes_on = open-kept keep x older may.goes_on; deed = may.deed; newest_own = rw same.1 may.newest_own; number = may.number; does = rw same.0 may.does; up = rw same.0 may.up }
 may-kept keep older (Commits c x) reasons may = record { goes_on = open-kept keep x older may.goes_on; above = all_filter (DeedsBelow x c) keep older may.above }
-may-kept keep older (RollsBack c x) reasons may = record { goes_on = open-kept keep x older may.goes_on; none = reasons; above = all_filter (DeedsBelow x c) keep older may.above }
+may-kept keep older (RollsBack inst c x) reasons may = record { goes_on = open-kept keep x older may.goes_on; none = reasons; above = all_filter (DeedsBelow x c) keep older may.above }
 
 pub kept-made : (keep : Record → Bool) (records : List Record) → KeepsReasons keep records → AreMade records → AreMade (filter keep records)
 kept-made keep [] reasons made = tt

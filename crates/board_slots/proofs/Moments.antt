@@ -18,13 +18,13 @@ use Rattle.board_slots.proofs.Keeps.{OfRecord, stands-from}
 open-unended : (x : Xid) (records : List Record) → stage x records ≡ Open → ended records x ≡ None
 open-unended x [] e = refl
 open-unended x (Does m ∷ records) e = open-unended x records e
-open-unended x (TakesBack y seq scn change ∷ records) e = open-unended x records e
+open-unended x (TakesBack inst y seq scn change ∷ records) e = open-unended x records e
 open-unended x (Commits c y ∷ records) e = here (same_xid x y) e (open-unended x records)
   where
     here : (t : Bool) → cond t (Over (Some c)) (stage x records) ≡ Open → (stage x records ≡ Open → ended records x ≡ None) → cond t (Some c) (ended records x) ≡ None
     here true e ih = (cc)
     here false e ih = ih e
-open-unended x (RollsBack c y ∷ records) e = here (same_xid x y) e (open-unended x records)
+open-unended x (RollsBack inst c y ∷ records) e = here (same_xid x y) e (open-unended x records)
   where
     here : (t : Bool) → cond t (Over None) (stage x records) ≡ Open → (stage x records ≡ Open → ended records x ≡ None) → cond t (Some c) (ended records x) ≡ None
     here true e ih = (cc)
@@ -34,13 +34,13 @@ open-unended x (RollsBack c y ∷ records) e = here (same_xid x y) e (open-unend
 commit-ends : (x : Xid) (c : ℕ) (records : List Record) → committed records x ≡ Some c → ended records x ≡ Some c
 commit-ends x c [] e = (cc)
 commit-ends x c (Does m ∷ records) e = commit-ends x c records e
-commit-ends x c (TakesBack y seq scn change ∷ records) e = commit-ends x c records e
+commit-ends x c (TakesBack inst y seq scn change ∷ records) e = commit-ends x c records e
 commit-ends x c (Commits d y ∷ records) e = here (same_xid x y) e (commit-ends x c records)
   where
     here : (t : Bool) → commit_in (cond t (Over (Some d)) (stage x records)) ≡ Some c → (committed records x ≡ Some c → ended records x ≡ Some c) → cond t (Some d) (ended records x) ≡ Some c
     here true e ih = e
     here false e ih = ih e
-commit-ends x c (RollsBack d y ∷ records) e = here (same_xid x y) e (commit-ends x c records)
+commit-ends x c (RollsBack inst d y ∷ records) e = here (same_xid x y) e (commit-ends x c records)
   where
     here : (t : Bool) → commit_in (cond t (Over None) (stage x records)) ≡ Some c → (committed records x ≡ Some c → ended records x ≡ Some c) → cond t (Some d) (ended records x) ≡ Some c
     here true e ih = (cc)
@@ -50,13 +50,13 @@ commit-ends x c (RollsBack d y ∷ records) e = here (same_xid x y) e (commit-en
 pub end-stays : (x : Xid) (c : ℕ) (newer there : List Record) → AreMade (newer ++ there) → ended there x ≡ Some c → ended (newer ++ there) x ≡ Some c
 end-stays x c [] there made e = e
 end-stays x c (Does m ∷ newer) there made e = end-stays x c newer there made.1 e
-end-stays x c (TakesBack y seq scn change ∷ newer) there made e = end-stays x c newer there made.1 e
+end-stays x c (TakesBack inst y seq scn change ∷ newer) there made e = end-stays x c newer there made.1 e
 end-stays x c (Commits d y ∷ newer) there made e = here (same_xid x y) refl (end-stays x c newer there made.1 e)
   where
     here : (t : Bool) → same_xid x y ≡ t → ended (newer ++ there) x ≡ Some c → cond t (Some d) (ended (newer ++ there) x) ≡ Some c
     here false f ih = ih
     here true f ih = absurd (let bad : None ≡ Some c = sym (rw (same_xid-true x y f) (open-unended y (newer ++ there) made.0.goes_on)) ∙ ih in cc)
-end-stays x c (RollsBack d y ∷ newer) there made e = here (same_xid x y) refl (end-stays x c newer there made.1 e)
+end-stays x c (RollsBack inst d y ∷ newer) there made e = here (same_xid x y) refl (end-stays x c newer there made.1 e)
   where
     here : (t : Bool) → same_xid x y ≡ t → ended (newer ++ there) x ≡ Some c → cond t (Some d) (ended (newer ++ there) x) ≡ Some c
     here false f ih = ih
@@ -70,7 +70,7 @@ ends-above x (Does m ∷ records) made = here (ended records x) refl (ends-above
     here : (o : Option ℕ) → ended records x ≡ o → IfSome o (λ e. AllByRecursion (DeedsBelow x e) records) → IfSome o (λ e. (by x m ≡ true → m.scn < e) × AllByRecursion (DeedsBelow x e) records)
     here None f h = tt
     here (Some e) f h = ((λ b. absurd (let bad : None ≡ Some e = sym (rw (same_xid-true x m.xid b) (open-unended m.xid records made.0.goes_on)) ∙ f in cc)), h)
-ends-above x (TakesBack y seq scn change ∷ records) made = here (ended records x) (ends-above x records made.1)
+ends-above x (TakesBack inst y seq scn change ∷ records) made = here (ended records x) (ends-above x records made.1)
   where
     here : (o : Option ℕ) → IfSome o (λ e. AllByRecursion (DeedsBelow x e) records) → IfSome o (λ e. Unit {0} × AllByRecursion (DeedsBelow x e) records)
     here None h = tt
@@ -81,7 +81,7 @@ ends-above x (Commits c y ∷ records) made = here (same_xid x y) refl (ended re
     here true f o h = (tt, rw (same_xid-true x y f) made.0.above)
     here false f None h = tt
     here false f (Some e) h = (tt, h)
-ends-above x (RollsBack c y ∷ records) made = here (same_xid x y) refl (ended records x) (ends-above x records made.1)
+ends-above x (RollsBack inst c y ∷ records) made = here (same_xid x y) refl (ended records x) (ends-above x records made.1)
   where
     here : (t : Bool) → same_xid x y ≡ t → (o : Option ℕ) → IfSome o (λ e. AllByRecursion (DeedsBelow x e) records) → IfSome (cond t (Some c) o) (λ e. Unit {0} × AllByRecursion (DeedsBelow x e) records)
     here true f o h = (tt, rw (same_xid-true x y f) made.0.above)
@@ -90,9 +90,9 @@ ends-above x (RollsBack c y ∷ records) made = here (same_xid x y) refl (ended 
 
 did_of : (x : Xid) (e : ℕ) (r : Record) → DeedsBelow x e r → OfRecord (λ m. by x m ≡ true → m.scn < e) r
 did_of x e (Does m) h = h
-did_of x e (TakesBack y seq scn change) h = tt
+did_of x e (TakesBack inst y seq scn change) h = tt
 did_of x e (Commits d y) h = tt
-did_of x e (RollsBack d y) h = tt
+did_of x e (RollsBack inst d y) h = tt
 
 -- of one transaction: what stands of it is below its end at each later moment
 pub end-over : (x : Xid) (newer there : List Record) → AreMade (newer ++ there) → AllByRecursion (λ m. by x m ≡ true → IfSome (ended (newer ++ there) x) (λ e. m.scn < e)) (stands there)

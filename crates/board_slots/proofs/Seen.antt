@@ -130,15 +130,15 @@ blocks-seen number [] made = seen-empty number
 blocks-seen number (Does m ∷ records) made =
     let placed = made.0.made.placed in
     seen-applied (block_of number records) (content records) (change_of m) m.scn (blocks-seen number records made.1) placed.row placed.first placed.last
-blocks-seen number (TakesBack x seq scn change ∷ records) made =
+blocks-seen number (TakesBack inst x seq scn change ∷ records) made =
     let at = back-placed records x seq scn change (all-sound records made.1) made.0 in
     seen-applied (block_of number records) (content records) change scn (blocks-seen number records made.1) at.0 at.1 at.2
 blocks-seen number (Commits c x ∷ records) made = blocks-seen number records made.1
-blocks-seen number (RollsBack c x ∷ records) made = blocks-seen number records made.1
+blocks-seen number (RollsBack inst c x ∷ records) made = blocks-seen number records made.1
 
 pub blocks-numbered : (number : ℕ) (records : List Record) → (block_of number records).front.number ≡ number
 blocks-numbered number [] = refl
 blocks-numbered number (Does m ∷ records) = blocks-numbered number records
-blocks-numbered number (TakesBack x seq scn change ∷ records) = blocks-numbered number records
+blocks-numbered number (TakesBack inst x seq scn change ∷ records) = blocks-numbered number records
 blocks-numbered number (Commits c x ∷ records) = blocks-numbered number records
-blocks-numbered number (RollsBack c x ∷ records) = blocks-numbered number records
+blocks-numbered number (RollsBack inst c x ∷ records) = blocks-numbered number records

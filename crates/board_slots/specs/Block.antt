@@ -97,12 +97,13 @@ empty = record { version = 0; scn = 0; value = λ row. Absent; lock = λ row. 0;
 abbrev pub held_by : Xid → Image → ℕ → Bool
 held_by xid image row = not (image.lock row == 0) && same_xid (image.slot (image.lock row)).xid xid
 
--- The redo records as one block sees them. An end touches no data block.
+-- The redo records as one block sees them: a deed is done, or taken back, or a transaction ends, which touches no data
+-- block. Deeds and commits are in the thread of their segment, the others in thread inst.
 pub data Record : Type 0 where
-  Does : (deed : Deed) → Record  -- a change or a lock
-  TakesBack : (xid : Xid) (seq scn : ℕ) (change : RowChange) → Record  -- one is taken back
+  Does : (deed : Deed) → Record
+  TakesBack : (inst : ℕ) (xid : Xid) (seq scn : ℕ) (change : RowChange) → Record
   Commits : (scn : ℕ) (xid : Xid) → Record
-  RollsBack : (scn : ℕ) (xid : Xid) → Record
+  RollsBack : (inst scn : ℕ) (xid : Xid) → Record
 
 -- a change or lock takes its slot anew where that names another transaction
 abbrev pub change_of : Deed → RowChange
@@ -119,7 +120,7 @@ change_of deed =
 -- the block after a record
 abbrev pub image_after : Record → Image → Image
 image_after (Does deed) image = changed (change_of deed) deed.scn image
-image_after (TakesBack xid seq scn change) image = changed change scn image
+image_after (TakesBack inst xid seq scn change) image = changed change scn image
 image_after _ image = image
 
 -- the content of the block, by the records on it, the newest first
@@ -139,7 +140,7 @@ without xid seq (deed ∷ deeds) = if is_that xid seq deed then deeds else deed 
 -- what stands after a record
 abbrev pub stands_after : Record → List Deed → List Deed
 stands_after (Does deed) deeds = deed ∷ deeds
-stands_after (TakesBack xid seq scn change) deeds = without xid seq deeds
+stands_after (TakesBack inst xid seq scn change) deeds = without xid seq deeds
 stands_after _ deeds = deeds
 
 -- what stands in the block, the newest first
@@ -155,7 +156,7 @@ pub data Stage : Type 0 where
 -- the stage of a transaction after a record
 abbrev pub stage_after : Xid → Record → Stage → Stage
 stage_after xid (Commits scn other) before = if same_xid xid other then Over (Some scn) else before
-stage_after xid (RollsBack scn other) before = if same_xid xid other then Over None else before
+stage_after xid (RollsBack inst scn other) before = if same_xid xid other then Over None else before
 stage_after xid _ before = before
 
 -- the stage of a transaction after these records

@@ -17,7 +17,7 @@ pub record IsSeen (block : BlockContent) (image : Image) : Type 0 where
 -- what a record does to a block
 abbrev pub block_after : Record → BlockContent → BlockContent
 block_after (Does deed) block = applied block (change_of deed) deed.scn
-block_after (TakesBack xid seq scn change) block = applied block change scn
+block_after (TakesBack inst xid seq scn change) block = applied block change scn
 block_after _ block = block
 
 -- the block with this number after these records, the newest first

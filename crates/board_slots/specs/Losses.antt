@@ -7,7 +7,7 @@ use Rattle.board_slots.specs.Block.{newest, by, Record, Does, TakesBack, Commits
 -- A record that touches the block is kept.
 abbrev pub TouchIsKept : (Record → Bool) → Record → Type 0
 TouchIsKept keep (Does deed) = keep (Does deed) ≡ true
-TouchIsKept keep (TakesBack xid seq scn change) = keep (TakesBack xid seq scn change) ≡ true
+TouchIsKept keep (TakesBack inst xid seq scn change) = keep (TakesBack inst xid seq scn change) ≡ true
 TouchIsKept keep _ = Unit {0}
 
 -- a commit that counted still does
@@ -21,9 +21,9 @@ ReasonsAreKept keep older (Does deed) =
     AllByRecursion (TouchIsKept keep) older
     × CommitIsKept keep older ((content older).slot ((content older).lock deed.row)).xid
     × CommitIsKept keep older ((content older).slot deed.itl).xid
-ReasonsAreKept keep older (TakesBack xid seq scn change) = AllByRecursion (TouchIsKept keep) older
+ReasonsAreKept keep older (TakesBack inst xid seq scn change) = AllByRecursion (TouchIsKept keep) older
 ReasonsAreKept keep older (Commits scn xid) = Unit {0}
-ReasonsAreKept keep older (RollsBack scn xid) = newest (by xid) (stands (filter keep older)) ≡ None
+ReasonsAreKept keep older (RollsBack inst scn xid) = newest (by xid) (stands (filter keep older)) ≡ None
 
 -- Of each kept record the reasons are kept.
 abbrev pub KeepsReasons : (Record → Bool) → List Record → Type 0

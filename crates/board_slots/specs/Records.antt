@@ -39,9 +39,9 @@ pub record MayRoll (records : List Record) (scn : ℕ) (xid : Xid) : Type 0 wher
 -- The rules may make this record next.
 abbrev pub May : List Record → Record → Type 0
 May records (Does deed) = MayDo records deed
-May records (TakesBack xid seq scn change) = MayBack records xid seq scn change
+May records (TakesBack inst xid seq scn change) = MayBack records xid seq scn change
 May records (Commits scn xid) = MayCommit records scn xid
-May records (RollsBack scn xid) = MayRoll records scn xid
+May records (RollsBack inst scn xid) = MayRoll records scn xid
 
 -- The rules made each of these records, the newest first.
 abbrev pub AreMade : List Record → Type 0

@@ -43,7 +43,7 @@ pub record IsTold (number : ℕ) (committed ended : Xid → Option ℕ) (look : 
 -- the SCN of a transaction's end, by the records up to a moment
 abbrev pub end_after : Xid → Record → Option ℕ → Option ℕ
 end_after xid (Commits scn other) before = if same_xid xid other then Some scn else before
-end_after xid (RollsBack scn other) before = if same_xid xid other then Some scn else before
+end_after xid (RollsBack inst scn other) before = if same_xid xid other then Some scn else before
 end_after xid _ before = before
 
 -- the SCN of a transaction's end by these records
