@@ -22,3 +22,4 @@ pub mod Headers
 pub mod Refusing
 pub mod Lost
 pub mod AtHand
+pub mod ExampleLemmas

@@ -10,3 +10,4 @@ pub mod Hand
 pub mod Reads
 pub mod Decide
 pub mod Losses
+pub mod Example

@@ -1,4 +1,4 @@
-ghost use Rattle.std.specs.Prelude.{ℕ, Option, Result, List, ◌∷◌, ◌≡◌, ◌≢◌, ◌||◌, ◌<◌, ◌≤◌, ◌-◌, ◌%◌, ◌++◌, not, Bool, true, false};
+ghost use Rattle.std.specs.Prelude.{ℕ, Option, None, Result, List, ◌∷◌, ◌≡◌, ◌≢◌, ◌||◌, ◌<◌, ◌≤◌, ◌-◌, ◌%◌, ◌++◌, not, Bool, true, false};
 ghost use Rattle.std.specs.List.{AllByRecursion, filter};
 ghost use Rattle.base_types.specs.declared.names.Xid.{Xid};
 ghost use Rattle.base_types.specs.declared.value.Value.{Value};
@@ -30,6 +30,7 @@ ghost use Rattle.board_slots.specs.Records.{May, MayDo, AreMade, Sound};
 ghost use Rattle.board_slots.specs.Reads.{ended_later, MayRead, MayReadWith};
 ghost use Rattle.board_slots.specs.Told.{ended, ended_by, HasReason, IsLook, IsTold};
 ghost use Rattle.board_slots.specs.Decide.{decided, GoesOn, IsBusy, IsTakenBy, MayDecide, NewestIsFree, RowIsFree};
+ghost use Rattle.board_slots.specs.Example.{example, header, seen_at_6, undo};
 ghost use Rattle.board_slots.specs.Header.{end_in, IsSlotOf, table_slot, Turn, Turns};
 ghost use Rattle.board_slots.specs.Losses.{KeepsReasons};
 ghost use Rattle.board_slots.specs.Ring.{in_place, Rising};
@@ -61,6 +62,14 @@ pub fn copies_show_what_is_visible()
     ensures halts { (records : List Record) (block : BlockContent) (snapshot : ℕ) (me : Option Xid) (ended : Xid → Option ℕ)
         (look : Xid → Look) (fetch : Xid → ℕ → Fetch) → MayRead records block me ended look fetch →
         HasReason snapshot look fetch (stands records) (make snapshot me look fetch block) }
+{}
+
+/// There is a block that may be read, and the copy of it that is made shows what is to be seen: two of four that
+/// committed, with a slot that was taken anew and given back.
+pub fn an_example_may_be_read()
+    ensures read { MayRead example (block_of 0 example) None (ended example) header undo }
+    ensures follows { ReaderFollows (committed example) 6 None (stands example) }
+    ensures shows { make 6 None header undo (block_of 0 example) ≡ Rows seen_at_6 }
 {}
 
 /// Over any content the rounds of a copy come to an end: more of them change nothing.
