@@ -19,6 +19,7 @@ use Rattle.board_slots.specs.Hand.{BlockHolds, HeaderTells, IsAtHand}
 use Rattle.board_slots.specs.Images.{block_of}
 use Rattle.board_slots.specs.Reads.{ended_later, MayRead, MayReadWith}
 use Rattle.board_slots.specs.Ring.{in_place}
+use Rattle.board_slots.specs.Records.{AreMade}
 use Rattle.board_slots.specs.Slots.{IsFair}
 use Rattle.board_slots.specs.Told.{ended, ended_by, IsLook, IsTold}
 use Rattle.board_slots.specs.Views.{IsWritten, ReaderFollows, undo_of, value_at, view}
@@ -47,18 +48,25 @@ block-holds : (size : ℕ) (u : UndoRecord) (o : Option UndoContent) → IfSome 
 block-holds size u None h = tt
 block-holds size u (Some block) h = rw h.place (all-contained (λ (u : UndoRecord). IsWritten u (found_at u.seq (in_place size ((u.seq - 1) % size) h.written))) h.written u (ring-holds size h.written h.rises) h.there)
 
+older-made : (newer there : List Record) → AreMade (newer ++ there) → AreMade there
+older-made [] there made = made
+older-made (r ∷ newer) there made = older-made newer there made.1
+
 module _ (own : SegmentState) (handed : HandedState) (number : ℕ) (newer : Xid → List Record) (there : List Record) (me : Option Xid) where
+  there-made : MayReadWith own handed number newer there me → AreMade there
+  there-made may = let x : Xid = record { seg = 0; slot = 0; wrap = 0 } in older-made (newer x) there (may.later x)
+
   told-at-hand : MayReadWith own handed number newer there me → AllByRecursion (IsTold number (committed there) (ended_later newer there) (look own handed) (fetch own handed)) (stands there)
   told-at-hand may =
       told-later number there newer (look own handed) (fetch own handed) may.later
       (all_both (IsFair (committed there)) (IsAtHand own handed number (ended_later newer there)) (λ m. IsLook (ended (newer m.xid ++ there) m.xid) (look own handed m.xid)) (stands there)
       (λ m fair h. head-tells m.xid (ended (newer m.xid ++ there) m.xid) (header_for own handed m.xid.seg) fair.placed.wrap h.head)
-      (fair-all (committed there) (stands there) (all-sound there may.made).orderly) may.hand)
+      (fair-all (committed there) (stands there) (all-sound there (there-made may)).orderly) may.hand)
       (all_map (IsAtHand own handed number (ended_later newer there)) (λ m. IsWritten (undo_of number m) (fetch own handed m.xid m.seq)) (stands there)
       (λ m h. block-holds own.layout.undo (undo_of number m) (undo_block_for own handed m.xid.seg m.seq) h.undo) may.hand)
 
   pub may-read : MayReadWith own handed number newer there me → MayRead there (block_of number there) me (ended_later newer there) (look own handed) (fetch own handed)
-  may-read may = record { made = may.made; seen = blocks-seen number there may.made; open_there = may.open_there; told = rw (blocks-numbered number there) (told-at-hand may) }
+  may-read may = record { sound = all-sound there (there-made may); seen = blocks-seen number there (there-made may); open_there = may.open_there; told = rw (blocks-numbered number there) (told-at-hand may) }
 
   pub shows-at-hand : (s : ℕ) → MayReadWith own handed number newer there me → ReaderFollows (committed there) s me (stands there) → (rows : List Value)
       → make s me (look own handed) (fetch own handed) (block_of number there) ≡ Rows rows → (r : ℕ) → r < 8 → value_at rows r ≡ view (λ x. is_own me x || ended_by s (ended_later newer there) x) (stands there) r

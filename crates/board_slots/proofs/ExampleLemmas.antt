@@ -1,7 +1,6 @@
 -- The example may be read, and its copy shows what is to be seen.
-use Rattle.std.proofs.Common.{◌≡◌, ℕ, ◌<◌, ◌≤◌, true, List, [], ◌∷◌, refl, arith, inl, inr}
-use Rattle.std.specs.Prelude.{Option, Some, None, pos}
-use Rattle.std.specs.List.{AllByRecursion}
+use Rattle.std.proofs.Common.{◌≡◌, ℕ, ◌<◌, ◌≤◌, true, List, [], refl, arith, inr}
+use Rattle.std.specs.Prelude.{None, pos}
 use Rattle.base_types.specs.declared.names.Xid.{Xid}
 use Rattle.base_types.specs.declared.value.Value.TheVariants.{Num}
 use Rattle.undo_segment.specs.declared.look.Look.{Look}
@@ -11,8 +10,7 @@ use Rattle.txn_slots.specs.Choice.{choose_slot}
 use Rattle.txn_slots.specs.Lock.{lock_row}
 use Rattle.cr_copy.specs.declared.made.Made.TheVariants.{Rows}
 use Rattle.cr_copy.specs.Copy.{make, rounds}
-use Rattle.cr_copy.specs.Named.{IsNamed}
-use Rattle.board_slots.specs.Block.{committed, Deed, Record, stands}
+use Rattle.board_slots.specs.Block.{committed, Record, stands}
 use Rattle.board_slots.specs.Decide.{GoesOn, MayDecide}
 use Rattle.board_slots.specs.Example.{all_ended, deed_after, example, fifth_deed, five, four_deeds, header, one, seen_at_6, three, two, txn, undo}
 use Rattle.board_slots.specs.Images.{block_of}
@@ -85,14 +83,18 @@ is_example = (record { goes_on = refl; deed = fifth_deed; newest_own = refl; num
 pub may_read : MayRead example (block_of 0 example) None (ended example) header undo
 may_read =
     record {
-      made = is_example;
+      sound = all-sound example is_example;
       seen = blocks-seen 0 example is_example;
       open_there = tt;
       told = (
         record { stays = λ scn e. e; above = omega arith; looks = refl; fetched = refl },
-        (record { stays = λ scn e. e; above = omega arith; looks = refl; fetched = refl },
-        (record { stays = λ scn e. e; above = omega arith; looks = refl; fetched = tt },
-        (record { stays = λ scn e. e; above = omega arith; looks = refl; fetched = tt }, tt))),
+        (
+          record { stays = λ scn e. e; above = omega arith; looks = refl; fetched = refl },
+          (
+            record { stays = λ scn e. e; above = omega arith; looks = refl; fetched = tt },
+            (record { stays = λ scn e. e; above = omega arith; looks = refl; fetched = tt }, tt),
+          ),
+        ),
       );
     }
 

@@ -16,11 +16,10 @@ use Rattle.cr_copy.specs.Copy.{halted, made_of, make, round, rounds, row_shown, 
 use Rattle.board_slots.specs.Block.{Image, Record, committed, content, stands}
 use Rattle.board_slots.specs.Images.{IsSeen}
 use Rattle.board_slots.specs.Reads.{MayRead}
-use Rattle.board_slots.specs.Records.{AreMade, Sound}
+use Rattle.board_slots.specs.Records.{Sound}
 use Rattle.board_slots.specs.Told.{ended_by, HasReason, IsTold, Stops}
 use Rattle.board_slots.specs.Views.{ReaderFollows, value_at, view}
 use Rattle.board_slots.proofs.Newest.{all_map}
-use Rattle.board_slots.proofs.Keeps.{all-sound}
 use Rattle.board_slots.proofs.Rule.{class}
 use Rattle.board_slots.proofs.Rounds.{Fits, Left, Rest}
 use Rattle.board_slots.proofs.Works.{left-first, shown-at}
@@ -29,9 +28,6 @@ use Rattle.board_slots.proofs.Readers.{fits-told}
 use Rattle.board_slots.proofs.Reasons.{Low, rounds-stop}
 
 module _ (records : List Record) (block : BlockContent) (s : ℕ) (me : Option Xid) (ended : Xid → Option ℕ) (look : Xid → Look) (fetch : Xid → ℕ → Fetch) (may : MayRead records block me ended look fetch) where
-  abbrev made : AreMade records
-  made = may.made
-
   abbrev seen : IsSeen block (content records)
   seen = may.seen
 
@@ -47,8 +43,8 @@ module _ (records : List Record) (block : BlockContent) (s : ℕ) (me : Option X
   abbrev image : Image
   image = content records
 
-  sound : Sound records
-  sound = all-sound records made
+  abbrev sound : Sound records
+  sound = may.sound
 
   fits : AllByRecursion (Fits past s me (ended_by s ended) (class s me look) number fetch) (stands records)
   fits = all_map (IsTold number past ended look fetch) (Fits past s me (ended_by s ended) (class s me look) number fetch) (stands records) (fits-told past s me ended look number fetch reader) may.told

@@ -1,6 +1,6 @@
 -- An example of a block that may be read. Four transactions change four rows and commit. A fifth takes the ITL slot of the
 -- first, changes its row, and is taken back. Then a reader comes whose snapshot is at the second one's end.
-use Rattle.std.specs.Prelude.{ℕ, ◌==◌, if◌then◌else◌, pos, true, List, [], ◌∷◌, Option, None, Some}
+use Rattle.std.specs.Prelude.{ℕ, ◌==◌, if◌then◌else◌, pos, true, List, [], ◌∷◌}
 use Rattle.base_types.specs.declared.names.Xid.{Xid}
 use Rattle.base_types.specs.declared.value.Value.{Value}
 use Rattle.base_types.specs.declared.value.Value.TheVariants.{Absent, Num}

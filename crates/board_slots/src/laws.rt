@@ -67,6 +67,7 @@ pub fn copies_show_what_is_visible()
 /// There is a block that may be read, and the copy of it that is made shows what is to be seen: two of four that
 /// committed, with a slot that was taken anew and given back.
 pub fn an_example_may_be_read()
+    ensures made { AreMade example }
     ensures read { MayRead example (block_of 0 example) None (ended example) header undo }
     ensures follows { ReaderFollows (committed example) 6 None (stands example) }
     ensures shows { make 6 None header undo (block_of 0 example) ≡ Rows seen_at_6 }

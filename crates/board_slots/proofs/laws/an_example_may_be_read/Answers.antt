@@ -1,4 +1,4 @@
-use Rattle.board_slots.proofs.ExampleLemmas.{follows, may_read, shows}
+use Rattle.board_slots.proofs.ExampleLemmas.{follows, is_example, may_read, shows}
 use Rattle.board_slots.proofs.laws.an_example_may_be_read.Goals as goal
 
 pub returns-clause-read : goal.returns-clause-read
@@ -9,3 +9,6 @@ returns-clause-follows c = follows
 
 pub returns-clause-shows : goal.returns-clause-shows
 returns-clause-shows c = shows
+
+pub returns-clause-made : goal.returns-clause-made
+returns-clause-made c = is_example
