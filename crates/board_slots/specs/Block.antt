@@ -1,5 +1,5 @@
 -- A data block by the records on it, and what of them stands.
-use Rattle.std.specs.Prelude.{ℕ, ◌+◌, ◌==◌, ◌&&◌, Bool, if◌then◌else◌, not, List, [], ◌∷◌, Option, Some, None}
+use Rattle.std.specs.Prelude.{ℕ, ◌<◌, ◌≤◌, IsSomeAnd, ◌+◌, ◌==◌, ◌&&◌, Bool, if◌then◌else◌, not, List, [], ◌∷◌, Option, Some, None}
 use Rattle.base_types.specs.declared.names.Xid.{Xid}
 use Rattle.redo_types.specs.declared.blocks.ItlSlot.{ItlSlot}
 use Rattle.redo_types.specs.declared.blocks.RowChange.{RowChange}
@@ -172,3 +172,11 @@ commit_in Open = None
 -- the SCN of a transaction's commit
 abbrev pub committed : List Record → Xid → Option ℕ
 committed records xid = commit_in (stage xid records)
+
+-- A transaction has committed below an SCN.
+abbrev pub CommittedBelow : (Xid → Option ℕ) → Xid → ℕ → Type 0
+CommittedBelow committed xid scn = IsSomeAnd (committed xid) (λ end. end < scn)
+
+-- A transaction has committed at a snapshot or before.
+abbrev pub CommittedUpTo : (Xid → Option ℕ) → Xid → ℕ → Type 0
+CommittedUpTo committed xid snapshot = IsSomeAnd (committed xid) (λ end. end ≤ snapshot)

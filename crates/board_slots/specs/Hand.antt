@@ -28,6 +28,7 @@ pub record BlockHolds (size : ℕ) (undo : UndoRecord) (block : UndoContent) : T
 
 -- What is at hand of a deed in the block with this number: the header of its segment, if that is at hand, tells its
 -- transaction's end, and the block of its undo record, if that is at hand, is of a moment after it was written.
-pub record IsAtHand (own : SegmentState) (handed : HandedState) (number : ℕ) (ended : Xid → Option ℕ) (deed : Deed) : Type 0 where
+pub record IsAtHand (own : SegmentState) (handed : HandedState) (number : ℕ) (ended : Xid → Option ℕ) (deed : Deed)
+    : Type 0 where
   pub head : IfSome (header_for own handed deed.xid.seg) (HeaderTells deed.xid (ended deed.xid))
   pub undo : IfSome (undo_block_for own handed deed.xid.seg deed.seq) (BlockHolds own.layout.undo (undo_of number deed))

@@ -12,7 +12,9 @@ TouchIsKept keep _ = Unit {0}
 
 -- a commit that counted still does
 abbrev pub CommitIsKept : (Record → Bool) → List Record → Xid → Type 0
-CommitIsKept keep older other = (P : ℕ → Bool) → IsSomeAnd (committed older other) (λ scn. P scn ≡ true) → IsSomeAnd (committed (filter keep older) other) (λ scn. P scn ≡ true)
+CommitIsKept keep older other =
+    (P : ℕ → Bool) → IsSomeAnd (committed older other) (λ scn. P scn ≡ true)
+    → IsSomeAnd (committed (filter keep older) other) (λ scn. P scn ≡ true)
 
 -- Under a record of the block that is kept, all of the block is. A change keeps the commits of those whose row or slot
 -- it takes. Nothing of one whose rollback's end is kept stands on what is kept.

@@ -1,18 +1,18 @@
 -- What a block says of what stands in it.
-use Rattle.std.specs.Prelude.{ℕ, ◌<◌, ◌≤◌, ◌≡◌, ◌⊎◌, ◌==◌, ◌&&◌, ◌+◌, if◌then◌else◌, true, false, List, [], ◌∷◌, Option, Some, None, IsSomeAnd, IfSome, is_some}
+use Rattle.std.specs.Prelude.{ℕ, ◌<◌, ◌≤◌, ◌≡◌, ◌⊎◌, ◌==◌, ◌&&◌, ◌+◌, if◌then◌else◌, true, false, List, [], ◌∷◌, Option, Some, None, IfSome, is_some}
 use Rattle.std.specs.List.{AllByRecursion}
 use Rattle.base_types.specs.declared.names.Xid.{Xid}
 use Rattle.redo_types.specs.declared.blocks.ItlSlot.{ItlSlot}
 use Rattle.redo_types.specs.declared.blocks.RowChange.{RowChange}
 use Rattle.journal.specs.Past.{same_xid}
 use Rattle.cr_copy.specs.Named.{IsNamed}
-use Rattle.board_slots.specs.Block.{Deed, newest, on_row, by, slot_of, slot_by, value_by, Image, held_by}
+use Rattle.board_slots.specs.Block.{CommittedBelow, Deed, newest, on_row, by, slot_of, slot_by, value_by, Image, held_by}
 
--- A newer deed and an older one, which is under it. Where they share a row or a slot, they are of one transaction, or the older
--- one's had committed before. One transaction has one slot. Versions rise.
+-- A newer deed and an older one, which is under it. Where they share a row or a slot, they are of one transaction, or the
+-- older one's had committed before. One transaction has one slot. Versions rise.
 pub record IsUnder (committed : Xid → Option ℕ) (deed under : Deed) : Type 0 where
-  pub row : (deed.row == under.row) ≡ true → same_xid deed.xid under.xid ≡ false → IsSomeAnd (committed under.xid) (λ end. end < deed.scn)
-  pub slot : (deed.itl == under.itl) ≡ true → same_xid deed.xid under.xid ≡ false → IsSomeAnd (committed under.xid) (λ end. end < deed.scn)
+  pub row : (deed.row == under.row) ≡ true → same_xid deed.xid under.xid ≡ false → CommittedBelow committed under.xid deed.scn
+  pub slot : (deed.itl == under.itl) ≡ true → same_xid deed.xid under.xid ≡ false → CommittedBelow committed under.xid deed.scn
   pub one : same_xid deed.xid under.xid ≡ true → deed.itl ≡ under.itl
   pub rises : under.version < deed.version
 
@@ -52,7 +52,8 @@ Orderly committed (deed ∷ deeds) = IsIn committed deed deeds × Orderly commit
 abbrev pub IsLocked : (Xid → Option ℕ) → ℕ → (ℕ → ItlSlot) → ℕ → Option Deed → Type 0
 IsLocked committed scn slot lock None = lock ≡ 0
 IsLocked committed scn slot lock (Some deed) =
-    ((lock ≡ 0) × IsSomeAnd (committed deed.xid) (λ end. end < scn)) ⊎ ((lock ≡ deed.itl) × ((slot deed.itl).xid ≡ deed.xid))
+    ((lock ≡ 0) × CommittedBelow committed deed.xid scn)
+    ⊎ ((lock ≡ deed.itl) × ((slot deed.itl).xid ≡ deed.xid))
 
 -- a block says what stands in it
 pub record Shows (committed : Xid → Option ℕ) (image : Image) (deeds : List Deed) : Type 0 where
@@ -76,14 +77,15 @@ back_of deed image =
 -- Who has the lock of a row is the transaction itself, or committed below an SCN, or nobody.
 abbrev pub IsFree : (Xid → Option ℕ) → Image → ℕ → Xid → ℕ → Type 0
 IsFree committed image row xid scn =
-    (image.lock row ≡ 0) ⊎ (((image.slot (image.lock row)).xid ≡ xid) ⊎ IsSomeAnd (committed (image.slot (image.lock row)).xid) (λ end. end < scn))
+    (image.lock row ≡ 0)
+    ⊎ (((image.slot (image.lock row)).xid ≡ xid) ⊎ CommittedBelow committed (image.slot (image.lock row)).xid scn)
 
 -- The slot is the own one; or no slot is, and it was never used, or its transaction committed below an SCN.
 abbrev pub IsChosen : (Xid → Option ℕ) → Image → ℕ → Xid → ℕ → Type 0
 IsChosen committed image itl xid scn =
     ((image.slot itl).xid ≡ xid)
     ⊎ (((other : ℕ) → 1 ≤ other → other ≤ 4 → same_xid xid (image.slot other).xid ≡ false)
-    × (((image.slot itl).xid.wrap ≡ 0) ⊎ IsSomeAnd (committed (image.slot itl).xid) (λ end. end < scn)))
+    × (((image.slot itl).xid.wrap ≡ 0) ⊎ CommittedBelow committed (image.slot itl).xid scn))
 
 -- undo keeps what the block has
 pub record KeepsUndo (image : Image) (deed : Deed) : Type 0 where

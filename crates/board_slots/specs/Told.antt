@@ -34,7 +34,8 @@ IsLook end (ReusedBelow bound found) = IsSomeAnd end (λ scn. scn ≤ bound)
 
 -- What is told of a change that stands in the image: the end of its transaction at the moment of its header. Who had
 -- committed at the image's moment has that end; each end is above what its transaction did.
-pub record IsTold (number : ℕ) (committed ended : Xid → Option ℕ) (look : Xid → Look) (fetch : Xid → ℕ → Fetch) (deed : Deed) : Type 0 where
+pub record IsTold (number : ℕ) (committed ended : Xid → Option ℕ) (look : Xid → Look) (fetch : Xid → ℕ → Fetch)
+    (deed : Deed) : Type 0 where
   pub stays : (scn : ℕ) → committed deed.xid ≡ Some scn → ended deed.xid ≡ Some scn
   pub above : IfSome (ended deed.xid) (λ end. deed.scn < end)
   pub looks : IsLook (ended deed.xid) (look deed.xid)
@@ -59,12 +60,14 @@ IsReusedAbove snapshot found _ = ⊥
 -- What is wanted is the header or the undo record of a deed, and it isn't at hand.
 abbrev pub IsWanted : (Xid → Look) → (Xid → ℕ → Fetch) → Deed → Wanted → Type 0
 IsWanted look fetch deed (Head seg) = (deed.xid.seg ≡ seg) × (look deed.xid ≡ Unlooked)
-IsWanted look fetch deed (Undo at) = (at ≡ record { seg = deed.xid.seg; seq = deed.seq }) × (fetch deed.xid deed.seq ≡ Unfetched)
+IsWanted look fetch deed (Undo at) =
+    (at ≡ record { seg = deed.xid.seg; seq = deed.seq }) × (fetch deed.xid deed.seq ≡ Unfetched)
 
 -- What is gone is the end of a deed's transaction, or its undo record.
 abbrev pub IsGone : ℕ → (Xid → Look) → (Xid → ℕ → Fetch) → Deed → Cause → Type 0
 IsGone snapshot look fetch deed (OldSlot xid found) = (deed.xid ≡ xid) × IsReusedAbove snapshot found (look deed.xid)
-IsGone snapshot look fetch deed (OldUndo xid wanted found) = (deed.xid ≡ xid) × (deed.seq ≡ wanted) × (fetch deed.xid deed.seq ≡ Reused found)
+IsGone snapshot look fetch deed (OldUndo xid wanted found) =
+    (deed.xid ≡ xid) × (deed.seq ≡ wanted) × (fetch deed.xid deed.seq ≡ Reused found)
 IsGone snapshot look fetch deed _ = ⊥
 
 -- A deed is why a copy has no rows.

@@ -1,5 +1,5 @@
 -- What a reader sees of the deeds that stand, and the undo of a deed.
-use Rattle.std.specs.Prelude.{ℕ, ◌≤◌, ◌≡◌, ◌==◌, ◌&&◌, true, false, Bool, List, [], ◌∷◌, Option, IsSomeAnd, slice_index_or}
+use Rattle.std.specs.Prelude.{ℕ, ◌≡◌, ◌==◌, ◌&&◌, true, false, Bool, List, [], ◌∷◌, Option, slice_index_or}
 use Rattle.std.specs.List.{AllByRecursion}
 use Rattle.base_types.specs.declared.names.Xid.{Xid}
 use Rattle.base_types.specs.declared.value.Value.{Value}
@@ -9,7 +9,7 @@ use Rattle.journal.specs.Past.{same_xid}
 use Rattle.undo_segment.specs.declared.fetch.Fetch.{Fetch}
 use Rattle.undo_segment.specs.declared.fetch.Fetch.TheVariants.{Has, Never}
 use Rattle.txn_slots.specs.Own.{is_own}
-use Rattle.board_slots.specs.Block.{Deed, newest, puts_on, value_of}
+use Rattle.board_slots.specs.Block.{CommittedUpTo, Deed, newest, puts_on, value_of}
 
 -- the view: what a row holds by the changes of the transactions that a test admits
 abbrev pub view : (Xid → Bool) → List Deed → ℕ → Value
@@ -42,9 +42,14 @@ IsWritten undo (Has found) = found ≡ undo
 IsWritten undo Never = ⊥
 IsWritten undo _ = Unit {0}
 
+-- Where an older deed of another transaction is on a deed's row, that one has committed at the snapshot or before.
+abbrev pub IsSeenUnder : (Xid → Option ℕ) → ℕ → Deed → Deed → Type 0
+IsSeenUnder committed snapshot deed under =
+    (deed.row == under.row) ≡ true → same_xid deed.xid under.xid ≡ false → CommittedUpTo committed under.xid snapshot
+
 -- Whoever changed or locked a row before the reader did had committed up to the snapshot.
 abbrev pub ReaderFollows : (Xid → Option ℕ) → ℕ → Option Xid → List Deed → Type 0
 ReaderFollows committed snapshot me [] = Unit {0}
 ReaderFollows committed snapshot me (deed ∷ deeds) =
-    (is_own me deed.xid ≡ true → AllByRecursion (λ under. (deed.row == under.row) ≡ true → same_xid deed.xid under.xid ≡ false → IsSomeAnd (committed under.xid) (λ end. end ≤ snapshot)) deeds)
+    (is_own me deed.xid ≡ true → AllByRecursion (IsSeenUnder committed snapshot deed) deeds)
     × ReaderFollows committed snapshot me deeds
