@@ -33,6 +33,7 @@ module _ (ask : ChangeAsk) (image : BlockContent) (segment : SegmentState) (hand
   -- some plan makes the record, where the row is free
   pub record IsPlanned : Type 0 where
     pub plan : Plan
+    pub xid : own_or_next ask.own segment ≡ Some plan.xid
     pub value : value_after ask.wish found ≡ Ok plan.value
     pub slot : choose_slot ask.own (look segment handed) image.itl ≡ slots.Take plan.itl plan.fresh
     pub is : change_record ask plan image segment (clock.scn + 1) ≡ r
@@ -41,20 +42,20 @@ module _ (ask : ChangeAsk) (image : BlockContent) (segment : SegmentState) (hand
   by_room (Ok next) plan h = cc
   by_room (Err full) plan h = absurd cc
 
-  by_slot : (answer : SlotAnswer) (x : Xid) (value : Value) → value_after ask.wish found ≡ Ok value → choose_slot ask.own (look segment handed) image.itl ≡ answer → slot_decision answer ask x value image segment clock ≡ Do r → IsPlanned
-  by_slot (slots.Need wanted) x value is chosen h = absurd cc
-  by_slot (slots.NoItl holders) x value is chosen h = absurd cc
-  by_slot (slots.Take itl fresh) x value is chosen h =
+  by_slot : (answer : SlotAnswer) (x : Xid) (value : Value) → own_or_next ask.own segment ≡ Some x → value_after ask.wish found ≡ Ok value → choose_slot ask.own (look segment handed) image.itl ≡ answer → slot_decision answer ask x value image segment clock ≡ Do r → IsPlanned
+  by_slot (slots.Need wanted) x value named is chosen h = absurd cc
+  by_slot (slots.NoItl holders) x value named is chosen h = absurd cc
+  by_slot (slots.Take itl fresh) x value named is chosen h =
       let plan : Plan = record { xid = x; itl = itl; fresh = fresh; value = value } in
-      record { plan = plan; value = is; slot = chosen; is = by_room (room segment) plan h }
+      record { plan = plan; xid = named; value = is; slot = chosen; is = by_room (room segment) plan h }
 
-  by_txn : (named : Option Xid) (value : Value) → value_after ask.wish found ≡ Ok value → txn_decision named ask value image segment handed clock ≡ Do r → IsPlanned
-  by_txn None value is h = absurd cc
-  by_txn (Some x) value is h = by_slot (choose_slot ask.own (look segment handed) image.itl) x value is refl h
+  by_txn : (named : Option Xid) (value : Value) → own_or_next ask.own segment ≡ named → value_after ask.wish found ≡ Ok value → txn_decision named ask value image segment handed clock ≡ Do r → IsPlanned
+  by_txn None value named is h = absurd cc
+  by_txn (Some x) value named is h = by_slot (choose_slot ask.own (look segment handed) image.itl) x value named is refl h
 
   by_value : (value : Result Value Cause) → value_after ask.wish found ≡ value → value_decision value ask image segment handed clock ≡ Do r → IsPlanned
   by_value (Err cause) is h = absurd cc
-  by_value (Ok value) is h = by_txn (own_or_next ask.own segment) value is h
+  by_value (Ok value) is h = by_txn (own_or_next ask.own segment) value refl is h
 
   by_free : free_decision ask image segment handed clock ≡ Do r → IsPlanned
   by_free h = by_value (value_after ask.wish found) refl h
@@ -85,3 +86,9 @@ module _ (ask : ChangeAsk) (image : BlockContent) (segment : SegmentState) (hand
   decided_is on_disk h =
       by_either (is_within_limits ask image segment clock) (lock_decision (lock_row ask.own (look segment handed) image (ask.row % 8)) ask image segment handed clock on_disk) _ (IsDecided (lock_row ask.own (look segment handed) image (ask.row % 8))) h
       (λ b within. by_lock (lock_row ask.own (look segment handed) image (ask.row % 8)) on_disk within) (λ b bad. absurd cc)
+
+  -- within the limits
+  pub decided_within : (on_disk : Scn) → change_decision ask image segment handed clock on_disk ≡ Do r → is_within_limits ask image segment clock ≡ true
+  decided_within on_disk h =
+      by_either (is_within_limits ask image segment clock) (lock_decision (lock_row ask.own (look segment handed) image (ask.row % 8)) ask image segment handed clock on_disk) _ (is_within_limits ask image segment clock ≡ true) h
+      (λ b within. b) (λ b bad. absurd cc)

@@ -1,3 +1,4 @@
 pub mod Decided
 pub mod DeedLemmas
 pub mod StepLemmas
+pub mod TurnLemmas

@@ -1,8 +1,9 @@
-ghost use Rattle.std.specs.Prelude.{ℕ, ◌≡◌, ◌<◌, List, Some, IsSomeAnd};
+ghost use Rattle.std.specs.Prelude.{ℕ, ◌≡◌, ◌<◌, ◌≤◌, ◌-◌, ◌^◌, List, ◌∷◌, None, Some};
 ghost use Rattle.base_types.specs.declared.names.Scn.{Scn};
 ghost use Rattle.base_types.specs.declared.names.Xid.{Xid};
 ghost use Rattle.redo_types.specs.declared.redo.Redo.{Redo};
 ghost use Rattle.block_image.specs.Block.{BlockContent};
+ghost use Rattle.undo_image.specs.Header.{slot_at};
 ghost use Rattle.undo_segment.specs.Handed.{HandedState};
 ghost use Rattle.undo_segment.specs.Segment.{look, SegmentState};
 ghost use Rattle.scn_clock.specs.declared.clock.Clock.{Clock};
@@ -12,12 +13,16 @@ ghost use Rattle.txn_engine.specs.declared.ask.Decision.TheVariants.{Do};
 ghost use Rattle.txn_engine.specs.declared.back.NextBack.TheVariants.{Undo};
 ghost use Rattle.txn_engine.specs.Back.{back_decision, next_back};
 ghost use Rattle.txn_engine.specs.Change.{change_decision};
+ghost use Rattle.txn_engine.specs.declared.end.EndKind.{EndKind};
+ghost use Rattle.txn_engine.specs.End.{end_decision};
 ghost use Rattle.board_slots.specs.Block.{by, content, Deed, newest, Open, Record, stage, stands};
 ghost use Rattle.board_slots.specs.Decide.{MayDecide, NewestIsFree};
+ghost use Rattle.board_slots.specs.Header.{Begins, Ends, table_slot, Turn};
 ghost use Rattle.board_slots.specs.Images.{IsSeen};
 ghost use Rattle.board_slots.specs.Records.{MayBack, MayDo, Sound};
 ghost use Rattle.board_slots.specs.Views.{undo_of};
 ghost use Rattle.deed_laws.specs.Deeds.{IsRedoOf, TakesBackBy};
+ghost use Rattle.deed_laws.specs.Turns.{IsTurned, LeavesTurned};
 
 /// A law: the record of a change or a lock that is decided over a block of sound records is that of a deed that the
 /// rules make, on a row whose newest deed is the transaction's own or has committed up to the statement's start.
@@ -37,4 +42,21 @@ pub fn decided_steps_back_are_made_by_the_rules()
         next_back xid segment ≡ Undo (undo_of image.front.number deed) → image.front.scn < redo.scn →
         back_decision xid segment image clock ≡ Some redo →
         TakesBackBy (λ change. MayBack records xid redo.seq redo.scn change) redo }
+{}
+
+/// A law: a record that is decided leaves its transaction's slot as one more turn of it does: it begins by its first
+/// deed and ends by its end. By a deed after the first, and by a step back, the slot stays as its turns left it.
+pub fn decided_records_take_turns()
+    ensures begins { (ask : ChangeAsk) (image : BlockContent) (segment : SegmentState) (handed : HandedState) (clock : Clock) (on_disk : Scn)
+        (turns : List Turn) (redo : Redo) → change_decision ask image segment handed clock on_disk ≡ Do redo → ask.own ≡ None →
+        IsTurned (slot_at segment.head redo.xid.slot) turns → (table_slot turns).wrap < 2 ^ 32 - 1 →
+        LeavesTurned redo (Begins ∷ turns) }
+    ensures goes_on { (ask : ChangeAsk) (image : BlockContent) (segment : SegmentState) (handed : HandedState) (clock : Clock) (on_disk : Scn)
+        (turns : List Turn) (redo : Redo) (own : Xid) → change_decision ask image segment handed clock on_disk ≡ Do redo →
+        ask.own ≡ Some own → IsTurned (slot_at segment.head redo.xid.slot) turns → LeavesTurned redo turns }
+    ensures steps_back { (xid : Xid) (segment : SegmentState) (clock : Clock) (turns : List Turn) → IsTurned (slot_at segment.head xid.slot) turns →
+        (image : BlockContent) (redo : Redo) → back_decision xid segment image clock ≡ Some redo → LeavesTurned redo turns }
+    ensures ends { (xid : Xid) (segment : SegmentState) (clock : Clock) (turns : List Turn) → IsTurned (slot_at segment.head xid.slot) turns →
+        (kind : EndKind) (redo : Redo) → end_decision xid kind segment clock ≡ Some redo → (table_slot turns).prev ≤ redo.scn →
+        LeavesTurned redo (Ends redo.scn ∷ turns) }
 {}

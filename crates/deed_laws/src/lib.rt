@@ -3,4 +3,6 @@
 
 mod laws;
 
-pub use laws::{decided_records_are_deeds, decided_steps_back_are_made_by_the_rules};
+pub use laws::{
+    decided_records_are_deeds, decided_records_take_turns, decided_steps_back_are_made_by_the_rules,
+};
