@@ -38,29 +38,32 @@ ghost use Rattle.board_slots.specs.Views.{IsWritten, ReaderFollows, undo_of, val
 
 /// Each record that the rules make leaves a block that says what stands in it.
 pub fn each_record_keeps_a_block_sound()
-    ensures record_kept { (records : List Record) (next : Record) → May records next → Sound records → Sound (next ∷ records) }
+    ensures record_kept { (records : List Record) (next : Record) → May records next → Sound records →
+        Sound (next ∷ records) }
     ensures run { (records : List Record) → AreMade records → Sound records }
 {}
 
 /// A block to which records that the rules make were applied has what the rules say of it.
 pub fn blocks_have_what_records_say()
-    ensures seen { (number : ℕ) (records : List Record) → AreMade records → IsSeen (block_of number records) (content records) }
+    ensures seen { (number : ℕ) (records : List Record) → AreMade records →
+        IsSeen (block_of number records) (content records) }
     ensures number { (number : ℕ) (records : List Record) → (block_of number records).front.number ≡ number }
 {}
 
 /// The rows of a consistent copy are those that the reader's own transaction and the ones that ended up to its snapshot
 /// left. A copy of what the rules made is never bad, and where it has no rows, a deed that stands is why.
 pub fn copies_show_what_is_visible()
-    ensures rows { (records : List Record) (block : BlockContent) (snapshot : ℕ) (me : Option Xid) (ended : Xid → Option ℕ)
-        (look : Xid → Look) (fetch : Xid → ℕ → Fetch) → MayRead records block me ended look fetch →
-        ReaderFollows (committed records) snapshot me (stands records) →
+    ensures rows { (records : List Record) (block : BlockContent) (snapshot : ℕ) (me : Option Xid)
+        (ended : Xid → Option ℕ) (look : Xid → Look) (fetch : Xid → ℕ → Fetch) →
+        MayRead records block me ended look fetch → ReaderFollows (committed records) snapshot me (stands records) →
         (rows : List Value) → make snapshot me look fetch block ≡ Rows rows → (row : ℕ) → row < 8 →
         value_at rows row ≡ view (λ xid. is_own me xid || ended_by snapshot ended xid) (stands records) row }
-    ensures good { (records : List Record) (block : BlockContent) (snapshot : ℕ) (me : Option Xid) (ended : Xid → Option ℕ)
-        (look : Xid → Look) (fetch : Xid → ℕ → Fetch) → MayRead records block me ended look fetch →
-        make snapshot me look fetch block ≢ Bad }
-    ensures halts { (records : List Record) (block : BlockContent) (snapshot : ℕ) (me : Option Xid) (ended : Xid → Option ℕ)
-        (look : Xid → Look) (fetch : Xid → ℕ → Fetch) → MayRead records block me ended look fetch →
+    ensures good { (records : List Record) (block : BlockContent) (snapshot : ℕ) (me : Option Xid)
+        (ended : Xid → Option ℕ) (look : Xid → Look) (fetch : Xid → ℕ → Fetch) →
+        MayRead records block me ended look fetch → make snapshot me look fetch block ≢ Bad }
+    ensures halts { (records : List Record) (block : BlockContent) (snapshot : ℕ) (me : Option Xid)
+        (ended : Xid → Option ℕ) (look : Xid → Look) (fetch : Xid → ℕ → Fetch) →
+        MayRead records block me ended look fetch →
         HasReason snapshot look fetch (stands records) (make snapshot me look fetch block) }
 {}
 
@@ -75,18 +78,19 @@ pub fn an_example_may_be_read()
 
 /// Over any content the rounds of a copy come to an end: more of them change nothing.
 pub fn copies_end()
-    ensures { (round : List ItlSlot → Result (Option Pick) Halt) (fuel more last : ℕ) (work : Work) →
-        last < fuel → last < more → rounds round fuel last work ≡ rounds round more last work }
+    ensures { (round : List ItlSlot → Result (Option Pick) Halt) (fuel more last : ℕ) (work : Work) → last < fuel →
+        last < more → rounds round fuel last work ≡ rounds round more last work }
 {}
 
 /// The reader's own changes stand over what had committed up to its snapshot.
 pub fn readers_follow_commits()
-    ensures record_kept { (records : List Record) (next : Record) (snapshot : ℕ) (me : Option Xid) → May records next →
+    ensures record_kept { (records : List Record) (next : Record) (snapshot : ℕ) (me : Option Xid) →
+        May records next →
         ((deed : Deed) → next ≡ Does deed → is_own me deed.xid ≡ true → RowIsFree records deed.xid snapshot deed.row) →
         ReaderFollows (committed records) snapshot me (stands records) →
         ReaderFollows (committed (next ∷ records)) snapshot me (stands (next ∷ records)) }
-    ensures later { (past : Xid → Option ℕ) (snapshot later : ℕ) (me : Option Xid) (deeds : List Deed) → snapshot ≤ later →
-        ReaderFollows past snapshot me deeds → ReaderFollows past later me deeds }
+    ensures later { (past : Xid → Option ℕ) (snapshot later : ℕ) (me : Option Xid) (deeds : List Deed) →
+        snapshot ≤ later → ReaderFollows past snapshot me deeds → ReaderFollows past later me deeds }
     ensures none { (past : Xid → Option ℕ) (snapshot : ℕ) (me : Option Xid) (deeds : List Deed) →
         AllByRecursion (λ deed. is_own me deed.xid ≡ false) deeds → ReaderFollows past snapshot me deeds }
 {}
@@ -95,8 +99,8 @@ pub fn readers_follow_commits()
 /// and an end is above all that stands of its transaction. In a ring of undo a place has the record that was written
 /// there, or a later one.
 pub fn later_moments_tell_of_an_image()
-    ensures headers { (number : ℕ) (there : List Record) (newer : Xid → List Record) (look : Xid → Look) (fetch : Xid → ℕ → Fetch) →
-        ((xid : Xid) → AreMade (newer xid ++ there)) →
+    ensures headers { (number : ℕ) (there : List Record) (newer : Xid → List Record) (look : Xid → Look)
+        (fetch : Xid → ℕ → Fetch) → ((xid : Xid) → AreMade (newer xid ++ there)) →
         AllByRecursion (λ deed. IsLook (ended (newer deed.xid ++ there) deed.xid) (look deed.xid)) (stands there) →
         AllByRecursion (λ deed. IsWritten (undo_of number deed) (fetch deed.xid deed.seq)) (stands there) →
         AllByRecursion (IsTold number (committed there) (ended_later newer there) look fetch) (stands there) }
@@ -107,14 +111,14 @@ pub fn later_moments_tell_of_an_image()
 /// The headers and undo blocks at hand, each of the image's moment or a later one, tell a reader what it is to be told.
 /// So the copy that the program makes of the block with them shows what is visible.
 pub fn what_is_at_hand_tells_readers()
-    ensures told { (own : SegmentState) (handed : HandedState) (number : ℕ) (newer : Xid → List Record) (there : List Record)
-        (me : Option Xid) → MayReadWith own handed number newer there me →
+    ensures told { (own : SegmentState) (handed : HandedState) (number : ℕ) (newer : Xid → List Record)
+        (there : List Record) (me : Option Xid) → MayReadWith own handed number newer there me →
         MayRead there (block_of number there) me (ended_later newer there) (look own handed) (fetch own handed) }
-    ensures rows { (own : SegmentState) (handed : HandedState) (number : ℕ) (newer : Xid → List Record) (there : List Record)
-        (me : Option Xid) (snapshot : ℕ) → MayReadWith own handed number newer there me →
-        ReaderFollows (committed there) snapshot me (stands there) →
-        (rows : List Value) → make snapshot me (look own handed) (fetch own handed) (block_of number there) ≡ Rows rows →
-        (row : ℕ) → row < 8 →
+    ensures rows { (own : SegmentState) (handed : HandedState) (number : ℕ) (newer : Xid → List Record)
+        (there : List Record) (me : Option Xid) (snapshot : ℕ) → MayReadWith own handed number newer there me →
+        ReaderFollows (committed there) snapshot me (stands there) → (rows : List Value) →
+        make snapshot me (look own handed) (fetch own handed) (block_of number there) ≡ Rows rows → (row : ℕ) →
+        row < 8 →
         value_at rows row ≡ view (λ xid. is_own me xid || ended_by snapshot (ended_later newer there) xid) (stands there) row }
 {}
 
@@ -134,33 +138,40 @@ pub fn losses_leave_what_the_rules_make()
 /// the rules make; the newest on the row is the transaction's own or has committed up to the snapshot; and the value
 /// that is found is what stands there.
 pub fn decisions_are_made_by_the_rules()
-    ensures record_made { (records : List Record) (block : BlockContent) → IsSeen block (content records) → (me : Option Xid) (xid : Xid)
-        (look : Xid → Look) (snapshot scn prev seq row itl : ℕ) (fresh puts : Bool) (value : Value) → Sound records →
-        MayDecide records me xid look snapshot scn → row < 8 → IsNamed (record { xid = xid; seq = seq }) →
-        GoesOn snapshot (lock_row me look block row) → choose_slot me look block.itl ≡ Take itl fresh →
+    ensures record_made { (records : List Record) (block : BlockContent) → IsSeen block (content records) →
+        (me : Option Xid) (xid : Xid) (look : Xid → Look) (snapshot scn prev seq row itl : ℕ) (fresh puts : Bool)
+        (value : Value) → Sound records → MayDecide records me xid look snapshot scn → row < 8 →
+        IsNamed (record { xid = xid; seq = seq }) → GoesOn snapshot (lock_row me look block row) →
+        choose_slot me look block.itl ≡ Take itl fresh →
         MayDo records (decided (content records) xid prev seq scn row itl puts value) }
-    ensures slot_anew { (records : List Record) (block : BlockContent) → IsSeen block (content records) → (me : Option Xid) (xid : Xid)
-        (look : Xid → Look) (snapshot scn itl : ℕ) (fresh : Bool) → Sound records → MayDecide records me xid look snapshot scn →
-        choose_slot me look block.itl ≡ Take itl fresh → fresh ≡ not (same_xid ((content records).slot itl).xid xid) }
-    ensures row_free { (records : List Record) (block : BlockContent) → IsSeen block (content records) → (me : Option Xid) (xid : Xid)
-        (look : Xid → Look) (snapshot scn row : ℕ) → Sound records → MayDecide records me xid look snapshot scn → row < 8 →
-        GoesOn snapshot (lock_row me look block row) → ReaderFollows (committed records) snapshot me (stands records) →
-        RowIsFree records xid snapshot row }
-    ensures newest_free { (records : List Record) (block : BlockContent) → IsSeen block (content records) → (me : Option Xid) (xid : Xid)
-        (look : Xid → Look) (snapshot scn row : ℕ) → Sound records → MayDecide records me xid look snapshot scn → row < 8 →
-        GoesOn snapshot (lock_row me look block row) → NewestIsFree records xid snapshot row }
-    ensures found { (records : List Record) (row : ℕ) → Sound records → (content records).value row ≡ value_by row (stands records) }
+    ensures slot_anew { (records : List Record) (block : BlockContent) → IsSeen block (content records) →
+        (me : Option Xid) (xid : Xid) (look : Xid → Look) (snapshot scn itl : ℕ) (fresh : Bool) → Sound records →
+        MayDecide records me xid look snapshot scn → choose_slot me look block.itl ≡ Take itl fresh →
+        fresh ≡ not (same_xid ((content records).slot itl).xid xid) }
+    ensures row_free { (records : List Record) (block : BlockContent) → IsSeen block (content records) →
+        (me : Option Xid) (xid : Xid) (look : Xid → Look) (snapshot scn row : ℕ) → Sound records →
+        MayDecide records me xid look snapshot scn → row < 8 → GoesOn snapshot (lock_row me look block row) →
+        ReaderFollows (committed records) snapshot me (stands records) → RowIsFree records xid snapshot row }
+    ensures newest_free { (records : List Record) (block : BlockContent) → IsSeen block (content records) →
+        (me : Option Xid) (xid : Xid) (look : Xid → Look) (snapshot scn row : ℕ) → Sound records →
+        MayDecide records me xid look snapshot scn → row < 8 → GoesOn snapshot (lock_row me look block row) →
+        NewestIsFree records xid snapshot row }
+    ensures found { (records : List Record) (row : ℕ) → Sound records →
+        (content records).value row ≡ value_by row (stands records) }
 {}
 
 /// Who is told to hold a row is another transaction, active by its header, and stands newest on the row. Where no slot
 /// can be taken, each of the four is of another one that is active by its header and stands newest in it, and no two are
 /// of one.
 pub fn refusals_name_who_stands()
-    ensures busy { (records : List Record) (block : BlockContent) → IsSeen block (content records) → (me : Option Xid) (look : Xid → Look)
-        (row : ℕ) (other : Xid) → Sound records → row < 8 → lock_row me look block row ≡ Held other → IsBusy records me look row other }
-    ensures no_itl { (records : List Record) (block : BlockContent) → IsSeen block (content records) → (me : Option Xid)
-        (look : Xid → Look) (holders : List Xid) (itl : ℕ) → Sound records → choose_slot me look block.itl ≡ NoItl holders →
-        1 ≤ itl → itl ≤ 4 → IsTakenBy records me look itl (slot_at block.itl itl).xid }
-    ensures differ { (records : List Record) (first second : ℕ) → Sound records → is_unused ((content records).slot first) ≡ false →
+    ensures busy { (records : List Record) (block : BlockContent) → IsSeen block (content records) →
+        (me : Option Xid) (look : Xid → Look) (row : ℕ) (other : Xid) → Sound records → row < 8 →
+        lock_row me look block row ≡ Held other → IsBusy records me look row other }
+    ensures no_itl { (records : List Record) (block : BlockContent) → IsSeen block (content records) →
+        (me : Option Xid) (look : Xid → Look) (holders : List Xid) (itl : ℕ) → Sound records →
+        choose_slot me look block.itl ≡ NoItl holders → 1 ≤ itl → itl ≤ 4 →
+        IsTakenBy records me look itl (slot_at block.itl itl).xid }
+    ensures differ { (records : List Record) (first second : ℕ) → Sound records →
+        is_unused ((content records).slot first) ≡ false →
         ((content records).slot first).xid ≡ ((content records).slot second).xid → first ≡ second }
 {}
