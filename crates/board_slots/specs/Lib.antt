@@ -1,0 +1,13 @@
+pub mod Block
+pub mod Slots
+pub mod Records
+pub mod Views
+pub mod Told
+pub mod Images
+pub mod Header
+pub mod Ring
+pub mod Hand
+pub mod Reads
+pub mod Decide
+pub mod Losses
+pub mod Example
