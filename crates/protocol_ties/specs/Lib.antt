@@ -1,0 +1,4 @@
+pub mod Messages
+pub mod Entries
+pub mod MasterRuns
+pub mod Takes

@@ -1,0 +1,10 @@
+//! That the directory's code does what the protocol of one block says: what a master does with a message is a run of the
+//! protocol's steps, and the entry that it makes of the reports is the protocol's.
+//!
+//! A crate of laws: each function has an empty body, and its clauses are theorems. The program's entries and messages
+//! become the protocol's in `specs/Entries.antt` and `specs/Messages.antt`.
+#![tactic(auto)]
+
+mod ties;
+
+pub use ties::a_message_is_a_run;
