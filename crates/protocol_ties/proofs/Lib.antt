@@ -1,3 +1,5 @@
 pub mod Bag
 pub mod Tables
 pub mod Out
+pub mod Goes
+pub mod Serves
