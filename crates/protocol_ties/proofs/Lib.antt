@@ -3,3 +3,5 @@ pub mod Tables
 pub mod Out
 pub mod Goes
 pub mod Serves
+pub mod Asks
+pub mod Origins

@@ -41,7 +41,7 @@ no-sharer : (o : Option ℕ) → is_some o ≡ false → o ≡ None
 no-sharer None e = refl
 no-sharer (Some g) e = absurd (let clash : true ≡ false = e in cc)
 
-from-disk : (o : Option ℕ) → is_none (shared_hold o) ≡ not (is_some o)
+pub from-disk : (o : Option ℕ) → is_none (shared_hold o) ≡ not (is_some o)
 from-disk None = refl
 from-disk (Some g) = refl
 
@@ -53,7 +53,7 @@ hold-grant : (o : Option ℕ) (hold : Hold) → shared_hold o ≡ Some hold → 
 hold-grant None hold e = absurd (let clash : ◌≡◌ {A = Option Hold} None (Some hold) = e in cc)
 hold-grant (Some g) hold e = let same : record { mode = Shared; grant = g } ≡ hold = cc in (ap (λ h. Some h.grant) same, sym (ap (λ h. h.mode) same))
 
-other-some : (asker : ℕ) (x : Option Holder) (h : Holder) → other_than asker x ≡ Some h → (x ≡ Some h) × (h.inst ≢ asker)
+pub other-some : (asker : ℕ) (x : Option Holder) (h : Holder) → other_than asker x ≡ Some h → (x ≡ Some h) × (h.inst ≢ asker)
 other-some asker None h e = absurd (let clash : ◌≡◌ {A = Option Holder} None (Some h) = e in cc)
 other-some asker (Some k) h e = go (eqb k.inst asker) refl e
   where
