@@ -5,3 +5,4 @@ pub mod Goes
 pub mod Serves
 pub mod Asks
 pub mod Origins
+pub mod Hears
