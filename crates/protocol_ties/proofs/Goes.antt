@@ -48,12 +48,12 @@ rest-trans s t u one two = two ∙ ap {A = Block} {B = Block} (λ z. record z { 
 pub clock-same : (s t : Block) → LeavesRest s t → clock_there t ≡ clock_there s
 clock-same s t one = ap clock_there one
 
-pub nothing-done : (wires : List Wire) (asks : List (ℕ × Want)) (entry : Entry) (s : Block) → TiedTo entry s → Same wires (flights instances s) → Same asks (gather of_waiting instances s.request)
+abbrev pub nothing-done : (wires : List Wire) (asks : List (ℕ × Want)) (entry : Entry) (s : Block) → TiedTo entry s → Same wires (flights instances s) → Same asks (gather of_waiting instances s.request)
     → (entry.op ≡ None → HasRoom entry) → Goes wires asks (silent entry) s
 nothing-done wires asks entry s tied messages requests room = record { after = s; run = stays s; tied = tied; bags = (messages, requests); beside = refl; room = room }
 
 -- one thing after another
-pub goes-then : (wires : List Wire) (asks later : List (ℕ × Want)) (first : Taken) (next : Entry → Taken) (s : Block) (k : Goes wires asks first s)
+abbrev pub goes-then : (wires : List Wire) (asks later : List (ℕ × Want)) (first : Taken) (next : Entry → Taken) (s : Block) (k : Goes wires asks first s)
     → Goes (wires_of (clock_there s) first.sends ++ wires) later (next first.entry) k.after → Goes wires later (and_then first next) s
 goes-then wires asks later first next s k m = record {
   after = m.after;
@@ -69,7 +69,7 @@ goes-then wires asks later first next s k m = record {
 }
 
 -- a step before it
-pub goes-before : (wires : List Wire) (asks : List (ℕ × Want)) (taken : Taken) (s t : Block) → MasterRun s t → LeavesRest s t → Goes wires asks taken t → Goes wires asks taken s
+abbrev pub goes-before : (wires : List Wire) (asks : List (ℕ × Want)) (taken : Taken) (s t : Block) → MasterRun s t → LeavesRest s t → Goes wires asks taken t → Goes wires asks taken s
 goes-before wires asks taken s t run beside k = record {
   after = k.after;
   run = run-trans run k.run;

@@ -104,7 +104,7 @@ module _ (wires : List Wire) (asks : List (ℕ × Want)) (b g scn : ℕ) (entry 
       go false is = out-by t.0 (hears_gave_up s g scn t.0 t.1 le (other-grant is entry.op refl)) tt t.2
 
 -- past images that were written may go
-pub drops-one : (wires : List Wire) (asks : List (ℕ × Want)) (b to version : ℕ) (entry : Entry) (s : Block) → TiedTo entry s → (entry.op ≡ None → HasRoom entry) → version ≤ s.written
+abbrev pub drops-one : (wires : List Wire) (asks : List (ℕ × Want)) (b to version : ℕ) (entry : Entry) (s : Block) → TiedTo entry s → (entry.op ≡ None → HasRoom entry) → version ≤ s.written
     → Same wires (flights instances s) → Same asks (gather of_waiting instances s.request) → Goes wires asks (telling entry to (messages.DropPast b version)) s
 drops-one wires asks b to version entry s tied room le bag queue = record {
   after = record s { memos = DropPast to version ∷ s.memos };

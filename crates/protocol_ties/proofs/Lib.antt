@@ -6,3 +6,4 @@ pub mod Serves
 pub mod Asks
 pub mod Origins
 pub mod Hears
+pub mod Pleas

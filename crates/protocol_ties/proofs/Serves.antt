@@ -49,7 +49,7 @@ some-hold : (o : Option ℕ) → is_some (shared_hold o) ≡ is_some o
 some-hold None = refl
 some-hold (Some g) = refl
 
-hold-grant : (o : Option ℕ) (hold : Hold) → shared_hold o ≡ Some hold → (o ≡ Some hold.grant) × (hold.mode ≡ Shared)
+pub hold-grant : (o : Option ℕ) (hold : Hold) → shared_hold o ≡ Some hold → (o ≡ Some hold.grant) × (hold.mode ≡ Shared)
 hold-grant None hold e = absurd (let clash : ◌≡◌ {A = Option Hold} None (Some hold) = e in cc)
 hold-grant (Some g) hold e = let same : record { mode = Shared; grant = g } ≡ hold = cc in (ap (λ h. Some h.grant) same, sym (ap (λ h. h.mode) same))
 
