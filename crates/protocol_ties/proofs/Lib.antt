@@ -7,3 +7,4 @@ pub mod Asks
 pub mod Origins
 pub mod Hears
 pub mod Pleas
+pub mod Drains
