@@ -101,12 +101,12 @@ the-memo s m left t k = elim (Takes-of m (of_operation s.op) (gather of_request 
     | inr q ↦ elim (Takes-of m (map of_note s.notes) (map of_memo s.memos) q.0 q.1) [
       | inl p ↦ (let o = Takes-map of_note m s.notes p.0 p.1 in absurd (told-note o.0 m o.2 t))
       | inr p ↦ (let o = Takes-map of_memo m s.memos p.0 p.1 in record {
-          memo = o.0;
-          rest = o.1;
-          is = o.2;
-          takes = o.3;
-          left_is = r.2 ∙ ap (λ l. of_operation s.op ++ l) (q.2 ∙ ap (λ l. gather of_request instances s.request ++ l) (p.2 ∙ ap (λ l. map of_note s.notes ++ l) o.4));
-        })
+        memo = o.0;
+        rest = o.1;
+        is = o.2;
+        takes = o.3;
+        left_is = r.2 ∙ ap (λ l. of_operation s.op ++ l) (q.2 ∙ ap (λ l. gather of_request instances s.request ++ l) (p.2 ∙ ap (λ l. map of_note s.notes ++ l) o.4));
+      })
     ]
   ]
 ]

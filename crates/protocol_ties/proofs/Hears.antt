@@ -49,7 +49,7 @@ tied-without g entry s notes request sound tied =
 module _ (wires : List Wire) (asks : List (ℕ × Want)) (b g scn : ℕ) (entry : Entry) (s : Block) (sound : Sound s) (tied : TiedTo entry s) (room : HasRoom entry) (le : scn ≤ clock_there s)
     (queue : Same asks (gather of_waiting instances s.request)) where
   -- a step takes the holder out, and who waited goes on
-  out-by : (rest : List Note) (step : Step s (record s { lists = without g s.lists; notes = rest })) → IsMasters step → Same wires (flights instances (record s { notes = rest })) → Goes wires asks (gone b g entry) s
+  pub out-by : (rest : List Note) (step : Step s (record s { lists = without g s.lists; notes = rest })) → IsMasters step → Same wires (flights instances (record s { notes = rest })) → Goes wires asks (gone b g entry) s
   out-by rest step masters bag =
       goes-before wires asks (gone b g entry) s (record s { lists = without g s.lists; notes = rest }) (goes step masters (stays (record s { lists = without g s.lists; notes = rest }))) refl
       (goes-on wires asks b (taken_out g entry) (record s { lists = without g s.lists; notes = rest }) (Sound-step step sound) (tied-without g entry s rest s.request sound tied) room bag queue)

@@ -8,3 +8,5 @@ pub mod Origins
 pub mod Hears
 pub mod Pleas
 pub mod Drains
+pub mod Backs
+pub mod Reacts

@@ -112,8 +112,7 @@ request-taken w wires s i r then carries notes tells is none bag =
     let same : (t.0, s.request t.0) ≡ (i, r) = some-one (t.0, s.request t.0) (i, r) (sym (request-of t.0 (s.request t.0) w t.2) ∙ is) in
     let here : t.0 ≡ i = ap (λ p. p.0) same in
     let lt : i < instances = subst (λ j. j < instances) here t.1 in
-    let one : of_request i (s.request i) ≡ w ∷ [] = subst (λ j. of_request j (s.request j) ≡ w ∷ []) here t.2 in
-    (
+    let one : of_request i (s.request i) ≡ w ∷ [] = subst (λ j. of_request j (s.request j) ≡ w ∷ []) here t.2 in (
       lt,
       sym (ap (λ j. s.request j) here) ∙ ap (λ p. p.1) same,
       left-by w wires (flights instances s) (flights instances (record s { request = put s.request i then })) bag

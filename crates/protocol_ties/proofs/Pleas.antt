@@ -45,9 +45,8 @@ drops-each wires asks b limit past entry (i ∷ insts) s tied room le bag queue 
         pick true is =
             let low : v ≤ limit = leb-true v limit is in
             let rest = others (DropPastWire i v ∷ wires) (record s { memos = DropPast i v ∷ s.memos })
-                (record { lists = tied.lists; alone = tied.alone; sized = tied.sized; draws = tied.draws; operation = tied.operation; known = tied.known }) le
-                (drops-one wires asks b i v entry s tied room (omega (arith, low, le)) bag queue).bags.0 queue in
-            (
+            (record { lists = tied.lists; alone = tied.alone; sized = tied.sized; draws = tied.draws; operation = tied.operation; known = tied.known }) le
+            (drops-one wires asks b i v entry s tied room (omega (arith, low, le)) bag queue).bags.0 queue in (
               goes-then wires asks asks (telling entry i (messages.DropPast b v)) (λ e. record { entry = e; sends = flat_map (λ inst. drops_to b limit (version_of past inst) inst) insts }) s
                   (drops-one wires asks b i v entry s tied room (omega (arith, low, le)) bag queue) rest.0,
               rest.1,
@@ -71,9 +70,8 @@ module _ (wires : List Wire) (asks : List (ℕ × Want)) (b version : ℕ) (entr
       → (k : Goes wires asks (wrote b version entry) s) × (version ≤ k.after.written)
   writes-known memos step masters bag =
       let all = drops-each wires asks b version entry.past (record entry { written = max entry.written version; past = versions_above entry.past version }) all_insts (record s { written = max s.written version; memos = memos })
-          (written-tied version entry s memos tied) room (omega arith) bag queue in
-      let same = all.1 in
-      (
+      (written-tied version entry s memos tied) room (omega arith) bag queue in
+      let same = all.1 in (
         goes-before wires asks (wrote b version entry) s (record s { written = max s.written version; memos = memos }) (goes step masters (stays (record s { written = max s.written version; memos = memos }))) refl all.0,
         omega (arith, same),
       )

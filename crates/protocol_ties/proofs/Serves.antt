@@ -159,7 +159,7 @@ module _ (wires : List Wire) (asks : List (ℕ × Want)) (b asker : ℕ) (want :
 
   -- an image is ordered
   orders-from : (mode : HoldMode) (m : Mode) → ((g : ℕ) → hold_of mode g ≡ Some (record { mode = m; grant = g })) → mode_for want ≡ m → (i g : ℕ) → s.lists i ≡ Some (record { mode = m; grant = g }) → i ≢ asker
-      → (sends : List (ℕ × Message)) → ((new : ℕ) → s.next ≡ new → wires_of (clock_there s) sends ≡ ShipToWire i g asker (record { mode = m; grant = new }) ∷ []) 
+      → (sends : List (ℕ × Message)) → ((new : ℕ) → s.next ≡ new → wires_of (clock_there s) sends ≡ ShipToWire i g asker (record { mode = m; grant = new }) ∷ [])
       → Goes wires asks (record { entry = granting asker mode held entry; sends = sends }) s
   orders-from mode m holds is i g there ne sends sent =
       begun wires asks mode m held asker want (ShipTo i g) entry s sends holds lt idle waits tied room bag queue (sent s.next refl)
