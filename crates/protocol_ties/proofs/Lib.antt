@@ -10,3 +10,4 @@ pub mod Pleas
 pub mod Drains
 pub mod Backs
 pub mod Reacts
+pub mod Turns

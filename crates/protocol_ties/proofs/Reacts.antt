@@ -28,7 +28,7 @@ use Rattle.block_protocol.proofs.RefinesAsk.{gather-comes}
 use Rattle.protocol_ties.specs.Messages.{instances, want_of, wire_of, back_of, wires_of, asks_of, pleas_of}
 use Rattle.protocol_ties.specs.Entries.{IsProper, Tied, Shows}
 use Rattle.protocol_ties.specs.MasterRuns.{MasterRun, stays, goes, LeavesRest, raised}
-use Rattle.protocol_ties.specs.Takes.{IsPleaOfMade, IsForMaster, HasRoom, IsRun, MayTake, MessageIsARun}
+use Rattle.protocol_ties.specs.Takes.{IsOfMade, IsForMaster, HasRoom, IsRun, MayTake, MessageIsARun}
 use Rattle.protocol_ties.proofs.Goes.{TiedTo, Goes, goes-before, sound-after}
 use Rattle.protocol_ties.proofs.Hears.{goes-gone, goes-gave_up, goes-done}
 use Rattle.protocol_ties.proofs.Pleas.{goes-wrote}
@@ -94,7 +94,7 @@ module _ (me scn : ℕ) (wires : List Wire) (entry : Entry) (s : Block) (sound :
         k.1,
       )
 
-  reacts-back : (u : Unfound) → IsPleaOfMade u s → Same (back_of scn u ∷ (wires ++ pleas_of entry.queue)) (flights instances s) → Reacts wires (hear_back u entry) s
+  reacts-back : (u : Unfound) → IsOfMade (messages.Back u) s → Same (back_of scn u ∷ (wires ++ pleas_of entry.queue)) (flights instances s) → Reacts wires (hear_back u entry) s
   reacts-back (unfound.CopyTo b g reader) made bag = back-copy wires b scn entry s sound tied room le queue proper g reader bag
   reacts-back (unfound.ShareTo b g new asker) made bag = back-ship wires b scn entry s sound tied room le queue proper modes.Shared (record { mode = Shared; grant = new }) g asker refl bag
   reacts-back (unfound.ShipTo b g new asker) made bag = back-ship wires b scn entry s sound tied room le queue proper modes.Exclusive (record { mode = Exclusive; grant = new }) g asker refl bag
@@ -103,36 +103,36 @@ module _ (me scn : ℕ) (wires : List Wire) (entry : Entry) (s : Block) (sound :
   is-wire : (a wire : Wire) → Some a ≡ Some wire → Same (wire ∷ (wires ++ pleas_of entry.queue)) (flights instances s) → Same (a ∷ (wires ++ pleas_of entry.queue)) (flights instances s)
   is-wire a wire is bag = subst (λ w. Same (w ∷ (wires ++ pleas_of entry.queue)) (flights instances s)) (sym (some-one a wire is)) bag
 
-  pub reacts : (message : Message) (wire : Wire) → IsForMaster message s → wire_of me scn message ≡ Some wire → Same (wire ∷ (wires ++ pleas_of entry.queue)) (flights instances s) → Reacts wires (react message entry) s
-  reacts (messages.Ask b mode held asker) wire for is bag = reacts-ask b mode held asker wire (want_of mode held) refl is bag
-  reacts (messages.CopyTo b g r) wire for is bag = absurd for
-  reacts (messages.ShareTo b g n a) wire for is bag = absurd for
-  reacts (messages.ShipTo b g n a) wire for is bag = absurd for
-  reacts (messages.Invalidate b g) wire for is bag = absurd for
-  reacts (messages.Grant b g m d) wire for is bag = absurd for
-  reacts (messages.Shipped x) wire for is bag = absurd for
-  reacts (messages.Copy i u) wire for is bag = absurd for
-  reacts (messages.Gone b g) wire for is bag =
+  pub reacts : (message : Message) (wire : Wire) → IsForMaster message → IsOfMade message s → wire_of me scn message ≡ Some wire → Same (wire ∷ (wires ++ pleas_of entry.queue)) (flights instances s) → Reacts wires (react message entry) s
+  reacts (messages.Ask b mode held asker) wire for made is bag = reacts-ask b mode held asker wire (want_of mode held) refl is bag
+  reacts (messages.CopyTo b g r) wire for made is bag = absurd for
+  reacts (messages.ShareTo b g n a) wire for made is bag = absurd for
+  reacts (messages.ShipTo b g n a) wire for made is bag = absurd for
+  reacts (messages.Invalidate b g) wire for made is bag = absurd for
+  reacts (messages.Grant b g m d) wire for made is bag = absurd for
+  reacts (messages.Shipped x) wire for made is bag = absurd for
+  reacts (messages.Copy i u) wire for made is bag = absurd for
+  reacts (messages.Gone b g) wire for made is bag =
       reacts-by wires entry (gone b g entry) s (gone-queue b g entry) proper
       (goes-gone (wires ++ pleas_of entry.queue) (asks_of entry.queue) b g scn entry s sound tied room le queue (is-wire (GoneWire g scn) wire is bag))
-  reacts (messages.Done b g m past) wire for is bag =
+  reacts (messages.Done b g m past) wire for made is bag =
       reacts-by wires entry (done b g past entry) s (done-queue b g past entry) proper
       (goes-done (wires ++ pleas_of entry.queue) (asks_of entry.queue) b g past entry s sound tied room (is-wire (DoneWire g) wire is bag) queue)
-  reacts (messages.GaveUp b g) wire for is bag =
+  reacts (messages.GaveUp b g) wire for made is bag =
       reacts-by wires entry (gave_up b g entry) s (gave-up-queue b g entry) proper
       (goes-gave_up (wires ++ pleas_of entry.queue) (asks_of entry.queue) b g scn entry s sound tied room le queue (is-wire (GaveUpWire g scn) wire is bag))
-  reacts (messages.Back u) wire for is bag = reacts-back u for (is-wire (back_of scn u) wire is bag)
-  reacts (messages.Wrote b version) wire for is bag =
+  reacts (messages.Back u) wire for made is bag = reacts-back u made (is-wire (back_of scn u) wire is bag)
+  reacts (messages.Wrote b version) wire for made is bag =
       reacts-by wires entry (wrote b version entry) s refl proper
       (goes-wrote (wires ++ pleas_of entry.queue) (asks_of entry.queue) b version entry s tied (λ e. room) queue (is-wire (WroteWire version) wire is bag))
-  reacts (messages.WritePlease b version holder None) wire for is bag = pleaded wires b version holder entry s tied (λ e. room) (is-wire (PleaseWire version) wire is bag) queue proper
-  reacts (messages.WritePlease b version holder (Some g)) wire for is bag = absurd (let clash : ◌≡◌ {A = Option ℕ} (Some g) None = for in cc)
-  reacts (messages.DropPast b version) wire for is bag = absurd for
-  reacts (messages.NeedUndo b j) wire for is bag = absurd for
-  reacts (messages.UndoIs i j) wire for is bag = absurd for
-  reacts (messages.Commit c) wire for is bag = absurd for
-  reacts (messages.Heard c) wire for is bag = absurd for
-  reacts (messages.Bucket k e) wire for is bag = absurd for
+  reacts (messages.WritePlease b version holder None) wire for made is bag = pleaded wires b version holder entry s tied (λ e. room) (is-wire (PleaseWire version) wire is bag) queue proper
+  reacts (messages.WritePlease b version holder (Some g)) wire for made is bag = absurd (let clash : ◌≡◌ {A = Option ℕ} (Some g) None = for in cc)
+  reacts (messages.DropPast b version) wire for made is bag = absurd for
+  reacts (messages.NeedUndo b j) wire for made is bag = absurd for
+  reacts (messages.UndoIs i j) wire for made is bag = absurd for
+  reacts (messages.Commit c) wire for made is bag = absurd for
+  reacts (messages.Heard c) wire for made is bag = absurd for
+  reacts (messages.Bucket k e) wire for made is bag = absurd for
 
 -- and what waited
 goes-whole : (wires : List Wire) (entry : Entry) (message : Message) (s : Block) → Sound s → Reacts wires (react message entry) s → Reacts wires (takes entry message) s
@@ -141,18 +141,9 @@ goes-whole wires entry message s sound k =
     (drained (react message entry).entry.queue (wires_of (clock_there s) (react message entry).sends ++ wires) (react message entry).entry k.0.after (sound-after k.0.run sound) k.0.tied k.0.room
     (bag-next (clock_there s) (react message entry).sends wires (react message entry).entry.queue (flights instances k.0.after) k.0.bags.0) k.0.bags.1 k.1)
 
-for-raised : (me scn : ℕ) (message : Message) (s : Block) → IsForMaster message s → IsForMaster message (raised me scn s)
-for-raised me scn (messages.Ask b mode held asker) s for = tt
-for-raised me scn (messages.Gone b g) s for = tt
-for-raised me scn (messages.Done b g m past) s for = tt
-for-raised me scn (messages.GaveUp b g) s for = tt
-for-raised me scn (messages.Back (unfound.CopyTo b g r)) s for = tt
-for-raised me scn (messages.Back (unfound.ShareTo b g n a)) s for = tt
-for-raised me scn (messages.Back (unfound.ShipTo b g n a)) s for = tt
-for-raised me scn (messages.Back (unfound.WritePlease b g v h)) s for = for
-for-raised me scn (messages.Wrote b version) s for = tt
-for-raised me scn (messages.WritePlease b version holder grant) s for = for
-for-raised me scn _ s for = absurd for
+made-raised : (me scn : ℕ) (message : Message) (s : Block) → IsOfMade message s → IsOfMade message (raised me scn s)
+made-raised me scn (messages.Back (unfound.WritePlease b g v h)) s made = made
+made-raised me scn _ s made = tt
 
 abbrev pub run-of : (wires : List Wire) (taken : Taken) (s : Block) → Reacts wires taken s → IsRun wires taken s
 run-of wires taken s k = record {
@@ -175,4 +166,4 @@ message-is-a-run me scn message wires entry block may room =
     let le : scn ≤ clock_there (raised me scn block) = omega (arith, there) in
     let tied : TiedTo entry (raised me scn block) = record { lists = shows.tied.lists; alone = shows.tied.alone; sized = shows.tied.sized; draws = shows.tied.draws; operation = shows.tied.operation; known = shows.tied.known } in
     run-of wires (takes entry message) (raised me scn block) (goes-whole wires entry message (raised me scn block) start
-    (reacts me scn wires entry (raised me scn block) start tied room le shows.requests shows.proper message may.wire (for-raised me scn message block may.for_master) may.is shows.messages))
+    (reacts me scn wires entry (raised me scn block) start tied room le shows.requests shows.proper message may.wire may.for_master (made-raised me scn message block may.of_made) may.is shows.messages))

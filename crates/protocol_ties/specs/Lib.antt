@@ -2,3 +2,4 @@ pub mod Messages
 pub mod Entries
 pub mod MasterRuns
 pub mod Takes
+pub mod MasterTurns

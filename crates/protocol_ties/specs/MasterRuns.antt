@@ -1,9 +1,9 @@
 -- What a master does with one block: runs of its own steps, which leave the rest alone.
 use Rattle.std.specs.Prelude.{◌≡◌, max}
 use Rattle.block_protocol.specs.Block.{Inst, Scn, Block, put}
-use Rattle.block_protocol.specs.Steps.{Step, arrives, steps_back, sends_copy, orders, gives_shared, begins_to_clear, gives, asks_to_write, ends, hears_gone, hears_back_write, hears_gave_up, ends_before_done, drops_stale, asks_copy_again, asks_ship_again, hears_written, hears_plea, passes_plea, lets_drop, pleads}
+use Rattle.block_protocol.specs.Steps.{Step, arrives, steps_back, sends_copy, orders, gives_shared, begins_to_clear, gives, asks_to_write, ends, hears_gone, hears_back_write, hears_gave_up, ends_before_done, drops_stale, asks_copy_again, asks_ship_again, hears_written, hears_plea, passes_plea, lets_drop, pleads, forwards_request, forwards_note, forwards_ship, sends_entry, takes_entry}
 
--- the steps that a master makes
+-- the steps that a block's master makes, who passes a message on to it, and who hands the entry over
 abbrev pub IsMasters : {before after : Block} → Step before after → Type 0
 IsMasters (arrives block inst want scn asks le) = Unit {0}
 IsMasters (steps_back block inst want idle waits not_upgrade) = Unit {0}
@@ -26,6 +26,11 @@ IsMasters (hears_plea block version rest takes idle shared) = Unit {0}
 IsMasters (passes_plea block version rest takes) = Unit {0}
 IsMasters (lets_drop block inst version le) = Unit {0}
 IsMasters (pleads block version le) = Unit {0}
+IsMasters (forwards_request block inst clock) = Unit {0}
+IsMasters (forwards_note block clock note rest takes) = Unit {0}
+IsMasters (forwards_ship block clock asker granted grant scn back) = Unit {0}
+IsMasters (sends_entry block inst at) = Unit {0}
+IsMasters (takes_entry block inst scn moves le) = Unit {0}
 IsMasters _ = ⊥
 
 -- a run of these

@@ -15,21 +15,21 @@ use Rattle.protocol_ties.specs.Messages.{wire_of, wires_of}
 use Rattle.protocol_ties.specs.Entries.{Shows}
 use Rattle.protocol_ties.specs.MasterRuns.{MasterRun, LeavesRest, raised}
 
--- a plea that came back is for a version that was made
-abbrev pub IsPleaOfMade : Unfound → Block → Type 0
-IsPleaOfMade (unfound.WritePlease block_no grant version holder) block = version ≤ length block.records
-IsPleaOfMade _ block = Unit {0}
-
 -- a message is one for the master of its block
-abbrev pub IsForMaster : Message → Block → Type 0
-IsForMaster (messages.Ask block_no mode held asker) block = Unit {0}
-IsForMaster (messages.Gone block_no grant) block = Unit {0}
-IsForMaster (messages.Done block_no grant mode past) block = Unit {0}
-IsForMaster (messages.GaveUp block_no grant) block = Unit {0}
-IsForMaster (messages.Back unfound) block = IsPleaOfMade unfound block
-IsForMaster (messages.Wrote block_no version) block = Unit {0}
-IsForMaster (messages.WritePlease block_no version holder grant) block = grant ≡ None
-IsForMaster _ block = ⊥
+abbrev pub IsForMaster : Message → Type 0
+IsForMaster (messages.Ask block_no mode held asker) = Unit {0}
+IsForMaster (messages.Gone block_no grant) = Unit {0}
+IsForMaster (messages.Done block_no grant mode past) = Unit {0}
+IsForMaster (messages.GaveUp block_no grant) = Unit {0}
+IsForMaster (messages.Back unfound) = Unit {0}
+IsForMaster (messages.Wrote block_no version) = Unit {0}
+IsForMaster (messages.WritePlease block_no version holder grant) = grant ≡ None
+IsForMaster _ = ⊥
+
+-- a plea that came back is for a version that was made, which the protocol's message doesn't tell
+abbrev pub IsOfMade : Message → Block → Type 0
+IsOfMade (messages.Back (unfound.WritePlease block_no grant version holder)) block = version ≤ length block.records
+IsOfMade _ block = Unit {0}
 
 -- the entry has a grant left that may be drawn
 abbrev pub HasRoom : Entry → Type 0
@@ -47,7 +47,8 @@ pub record IsRun (wires : List Wire) (taken : Taken) (before : Block) : Type 0 w
 pub record MayTake (me : Inst) (scn : Scn) (message : Message) (wires : List Wire) (entry : Entry) (block : Block) : Type 0 where
   pub place : block.place ≡ At me
   pub sound : Sound block
-  pub for_master : IsForMaster message block
+  pub for_master : IsForMaster message
+  pub of_made : IsOfMade message block
   pub wire : Wire
   pub is : wire_of me scn message ≡ Some wire
   pub shows : Shows (wire ∷ wires) entry block
