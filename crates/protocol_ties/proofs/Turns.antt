@@ -3,7 +3,7 @@ use Rattle.std.proofs.Common.{◌≡◌, ◌≢◌, ◌∙◌, ℕ, ◌≤◌, B
 use Rattle.std.specs.Prelude.{max, Option}
 use Rattle.block_protocol.specs.Block.{Inst, Scn, Block, put}
 use Rattle.block_protocol.specs.Steps.{Step, clock_there, asks, arrives, forwards_request, forwards_note, forwards_ship, steps_back, sends_copy, orders, gives_shared, begins_to_clear, gives, invalidates, was_gone, ships, ship_comes_back, serves_copy, copy_comes_back, asks_to_write, takes_wish, write_comes_back, takes_copy, installs_shipped, installs_from_disk, installs_held, evicts, ends, hears_gone, hears_back_write, hears_gave_up, ends_before_done, drops_stale, asks_copy_again, asks_ship_again, changes, writes, pleads, tells_written, hears_written, hears_plea, passes_plea, lets_drop, drops_past, forces, uses, uses_copy, drops_copy, raises, sends_entry, takes_entry}
-use Rattle.block_protocol.specs.Members.{Members, Cluster, RedoComes, Permits, IsAwake, actual_after, role_after}
+use Rattle.block_protocol.specs.Members.{Phase, Members, Cluster, RedoComes, Permits, IsAwake, actual_after, role_after}
 use Rattle.block_protocol.specs.Positions.{Firsts, firsts_after}
 use Rattle.block_protocol.specs.Turns.{IsEra, Turn, acts}
 use Rattle.block_protocol.specs.ClusterRuns.{Turns, ends_here, goes_on}
@@ -91,3 +91,70 @@ pub master-runs-are-turns : MasterRunsAreTurns
 master-runs-are-turns cluster inst scn after era run =
     goes_on (acts cluster (raised inst scn cluster.block) cluster.members.found (raises cluster.block inst (max (cluster.block.clock inst) scn) (omega arith)) era (no-redo cluster.members) tt tt)
     (steps-turn (cluster_raised inst scn cluster) run era)
+
+-- all blocks after a step at one of them
+abbrev stepped : (whole : AllBlocks) (b : BlockNo) (after : Block) → AllBlocks
+stepped whole b after = record { members = whole.members; clock = whole.clock; blocks = put whole.blocks b (record (view whole b) { block = after }) }
+
+step-all : (whole : AllBlocks) (b : BlockNo) (after : Block) (step : Step (view whole b).block after) → IsMasters step → IsEra whole.members.phase → TurnOfAll whole (stepped whole b after)
+step-all whole b after step is era =
+    let q = quiet step is in
+    let marks = q.marks (whole.blocks b).global (whole.blocks b).mine in
+    subst (λ (c : Inst → Scn). TurnOfAll whole (record { members = whole.members; clock = c; blocks = put whole.blocks b (record (view whole b) { block = after }) })) q.clocks
+    (subst (λ (m : Firsts). TurnOfAll whole (record { members = whole.members; clock = after.clock; blocks = put whole.blocks b (record (view whole b) { block = after; mine = m }) })) marks.1
+    (subst (λ (g : Inst → Bool). TurnOfAll whole (record { members = whole.members; clock = after.clock; blocks = put whole.blocks b (record (view whole b) { block = after; global = g; mine = firsts_after step (whole.blocks b).mine }) })) marks.0
+    (subst (λ (a : Inst → Scn). TurnOfAll whole (record { members = record whole.members { actual = a }; clock = after.clock; blocks = put whole.blocks b (after_step whole b step) })) (q.actual whole.members.actual)
+    (one_acts whole b after whole.members.found step era (no-redo whole.members) (q.permits whole.members.live whole.members.found) (q.awake whole.members.actual)))))
+
+stepped-here : (whole : AllBlocks) (b : BlockNo) (after : Block) → after.clock ≡ whole.clock → view (stepped whole b after) b ≡ record (view whole b) { block = after }
+stepped-here whole b after same =
+    ap {A = Cluster} {B = Cluster} (λ z. seen whole.members whole.clock z) (put-same whole.blocks b (record (view whole b) { block = after }))
+    ∙ ap {A = Inst → Scn} {B = Cluster} (λ c. record (view whole b) { block = record after { clock = c } }) (sym same)
+
+stepped-other : (whole : AllBlocks) (b : BlockNo) (after : Block) (c : BlockNo) → c ≢ b → view (stepped whole b after) c ≡ view whole c
+stepped-other whole b after c ne = ap {A = Cluster} {B = Cluster} (λ z. seen whole.members whole.clock z) (put-other whole.blocks b (record (view whole b) { block = after }) c (λ e. ne (sym e)))
+
+steps-all : (whole : AllBlocks) (b : BlockNo) {before after : Block} → MasterRun before after → (view whole b).block ≡ before → IsEra whole.members.phase → LeadsTo whole whole b after
+steps-all whole b (stays block) e era = record {
+  last = whole;
+  run = all_end whole;
+  here = ap {A = Block} {B = Cluster} (λ z. record (view whole b) { block = z }) e;
+  others = λ c ne. refl;
+}
+steps-all whole b {after = after} (goes {before = before} {between = between} step is rest) e era =
+    let own : (st : Step (view whole b).block between) × IsMasters st = subst (λ x. (st : Step x between) × IsMasters st) (sym e) (step, is) in
+    let q = quiet own.0 own.1 in
+    let here = stepped-here whole b between q.clocks in
+    let k = steps-all (stepped whole b between) b rest (ap {A = Cluster} {B = Block} (λ z. z.block) here) era in
+    record {
+      last = k.last;
+      run = all_go (step-all whole b between own.0 own.1 era) k.run;
+      here = k.here ∙ ap {A = Cluster} {B = Cluster} (λ z. record z { block = after }) here;
+      others = λ c ne. k.others c ne ∙ stepped-other whole b between c ne;
+    }
+
+-- a packet comes to one block, and raises the clock for all
+came-all : (whole : AllBlocks) (inst : Inst) (scn : Scn) (b : BlockNo) → IsEra whole.members.phase → LeadsTo whole (all_raised inst scn whole) b (raised inst scn (view whole b).block)
+came-all whole inst scn b era = record {
+  last = record { members = (all_raised inst scn whole).members; clock = (all_raised inst scn whole).clock; blocks = put whole.blocks b (record (view whole b) { block = raised inst scn (view whole b).block }) };
+  run = all_go (one_acts whole b (raised inst scn (view whole b).block) whole.members.found (raises (view whole b).block inst (max (whole.clock inst) scn) (omega arith)) era (no-redo whole.members) tt tt)
+      (all_end (record { members = (all_raised inst scn whole).members; clock = (all_raised inst scn whole).clock; blocks = put whole.blocks b (record (view whole b) { block = raised inst scn (view whole b).block }) }));
+  here = ap {A = Cluster} {B = Cluster} (λ z. seen (all_raised inst scn whole).members (all_raised inst scn whole).clock z) (put-same whole.blocks b (record (view whole b) { block = raised inst scn (view whole b).block }));
+  others = λ c ne. ap {A = Cluster} {B = Cluster} (λ z. seen (all_raised inst scn whole).members (all_raised inst scn whole).clock z) (put-other whole.blocks b (record (view whole b) { block = raised inst scn (view whole b).block }) c (λ e. ne (sym e)));
+}
+
+all-after : {one two three : AllBlocks} → RunOfAll one two → RunOfAll two three → RunOfAll one three
+all-after (all_end whole) k = k
+all-after (all_go turn rest) k = all_go turn (all-after rest k)
+
+pub master-runs-are-turns-of-all : MasterRunsAreTurnsOfAll
+master-runs-are-turns-of-all whole inst scn b after era run =
+    let came = came-all whole inst scn b era in
+    let era-there : IsEra came.last.members.phase = subst (λ z. IsEra z) (sym (ap {A = Cluster} {B = Phase} (λ z. z.members.phase) came.here)) era in
+    let k = steps-all came.last b run (ap {A = Cluster} {B = Block} (λ z. z.block) came.here) era-there in
+    record {
+      last = k.last;
+      run = all-after came.run k.run;
+      here = k.here ∙ ap {A = Cluster} {B = Cluster} (λ z. record z { block = after }) came.here;
+      others = λ c ne. k.others c ne ∙ came.others c ne;
+    }

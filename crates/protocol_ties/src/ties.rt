@@ -1,5 +1,5 @@
 ghost use Rattle.protocol_ties.specs.Takes.{MessageIsARun};
-ghost use Rattle.protocol_ties.specs.MasterTurns.{MasterRunsAreTurns};
+ghost use Rattle.protocol_ties.specs.MasterTurns.{MasterRunsAreTurns, MasterRunsAreTurnsOfAll};
 
 /// What a master does with a message, as the directory's crate has it, is a run of the protocol of one block: the entry
 /// that it comes to and what it sends are those of the state that the run leads to.
@@ -11,4 +11,5 @@ pub fn a_message_is_a_run()
 /// one of all blocks: so it keeps the invariant of each.
 pub fn a_run_of_the_master_is_one_of_turns()
     ensures one { MasterRunsAreTurns }
+    ensures all { MasterRunsAreTurnsOfAll }
 {}
