@@ -11,3 +11,4 @@ pub mod Drains
 pub mod Backs
 pub mod Reacts
 pub mod Turns
+pub mod Directories

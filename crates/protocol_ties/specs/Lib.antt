@@ -3,3 +3,5 @@ pub mod Entries
 pub mod MasterRuns
 pub mod Takes
 pub mod MasterTurns
+pub mod GoesOn
+pub mod Directories

@@ -1,4 +1,5 @@
 ghost use Rattle.protocol_ties.specs.Takes.{MessageIsARun};
+ghost use Rattle.protocol_ties.specs.Directories.{BucketsMoveWhole, DirectoryDrops, DirectoryTakesAtOne, EntryComes, EntryLeaves, EntryStaysShown};
 ghost use Rattle.protocol_ties.specs.MasterTurns.{MasterRunsAreTurns, MasterRunsAreTurnsOfAll};
 
 /// What a master does with a message, as the directory's crate has it, is a run of the protocol of one block: the entry
@@ -12,4 +13,20 @@ pub fn a_message_is_a_run()
 pub fn a_run_of_the_master_is_one_of_turns()
     ensures one { MasterRunsAreTurns }
     ensures all { MasterRunsAreTurnsOfAll }
+{}
+
+/// A message changes the one entry of its block in the master's directory, as the handler of a single entry says, and
+/// sends what that sends. Where the instance masters no such block it changes nothing.
+pub fn a_directory_takes_at_one_entry()
+    ensures takes { DirectoryTakesAtOne }
+    ensures drops { DirectoryDrops }
+{}
+
+/// A bucket that goes from one master to the next has each entry there as it was, and for each of its blocks that is two
+/// steps of the protocol.
+pub fn an_entry_moves()
+    ensures whole { BucketsMoveWhole }
+    ensures leaves { EntryLeaves }
+    ensures comes { EntryComes }
+    ensures shown { EntryStaysShown }
 {}
