@@ -12,3 +12,4 @@ pub mod Backs
 pub mod Reacts
 pub mod Turns
 pub mod Directories
+pub mod Passes

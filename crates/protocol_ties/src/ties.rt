@@ -1,5 +1,6 @@
 ghost use Rattle.protocol_ties.specs.Takes.{MessageIsARun};
 ghost use Rattle.protocol_ties.specs.Directories.{BucketsMoveWhole, DirectoryDrops, DirectoryTakesAtOne, EntryComes, EntryLeaves, EntryStaysShown};
+ghost use Rattle.protocol_ties.specs.GoesOn.{MessageGoesOn};
 ghost use Rattle.protocol_ties.specs.MasterTurns.{MasterRunsAreTurns, MasterRunsAreTurnsOfAll};
 
 /// What a master does with a message, as the directory's crate has it, is a run of the protocol of one block: the entry
@@ -29,4 +30,10 @@ pub fn an_entry_moves()
     ensures leaves { EntryLeaves }
     ensures comes { EntryComes }
     ensures shown { EntryStaysShown }
+{}
+
+/// A message for a master that comes to another instance goes on in a packet of that one's clock: a step of the protocol, or
+/// none where the message bears no clock there. The entry is shown as before.
+pub fn a_message_goes_on()
+    ensures { MessageGoesOn }
 {}
