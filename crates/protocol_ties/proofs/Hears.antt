@@ -147,7 +147,7 @@ module _ (wires : List Wire) (asks : List (ℕ × Want)) (b : ℕ) (entry : Entr
       go false = keeps past
 
 -- after an exclusive grant nobody shares the block
-nobody-shares : (j : ℕ) → grant_of no_grants j ≡ None
+pub nobody-shares : (j : ℕ) → grant_of no_grants j ≡ None
 nobody-shares j = elim (cases_lt j instances) [
   | inl low ↦ each-of (λ i. grant_of no_grants i ≡ None) (refl, (refl, (refl, (refl, (refl, (refl, (refl, (refl, tt)))))))) j low
   | inr high ↦ past-none no_grants j refl high

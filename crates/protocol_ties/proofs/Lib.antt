@@ -13,3 +13,6 @@ pub mod Reacts
 pub mod Turns
 pub mod Directories
 pub mod Passes
+pub mod About
+pub mod Among
+pub mod Reports

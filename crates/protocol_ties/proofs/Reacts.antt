@@ -58,7 +58,7 @@ entered-queue modes.Null i g entry = refl
 entered-queue modes.Shared i g entry = refl
 entered-queue modes.Exclusive i g entry = refl
 
-done-queue : (b g : ℕ) (past : Option PastHolder) (entry : Entry) → (done b g past entry).entry.queue ≡ entry.queue
+pub done-queue : (b g : ℕ) (past : Option PastHolder) (entry : Entry) → (done b g past entry).entry.queue ≡ entry.queue
 done-queue b g past entry = go entry.op
   where
     pick : (op : Operation) (t : Bool) → (done_if t op b g past entry).entry.queue ≡ entry.queue
@@ -69,7 +69,7 @@ done-queue b g past entry = go entry.op
     go None = newer-queue b past entry
     go (Some op) = pick op (is_number op.grant g)
 
-gave-up-queue : (b g : ℕ) (entry : Entry) → (gave_up b g entry).entry.queue ≡ entry.queue
+pub gave-up-queue : (b g : ℕ) (entry : Entry) → (gave_up b g entry).entry.queue ≡ entry.queue
 gave-up-queue b g entry = go (is_granting entry.op g) refl
   where
     go : (t : Bool) → is_granting entry.op g ≡ t → (gave_up b g entry).entry.queue ≡ entry.queue

@@ -5,3 +5,5 @@ pub mod Takes
 pub mod MasterTurns
 pub mod GoesOn
 pub mod Directories
+pub mod AmongAll
+pub mod Reports

@@ -1,7 +1,9 @@
 ghost use Rattle.protocol_ties.specs.Takes.{MessageIsARun};
+ghost use Rattle.protocol_ties.specs.AmongAll.{MessageIsTakenAmongAll};
 ghost use Rattle.protocol_ties.specs.Directories.{BucketsMoveWhole, DirectoryDrops, DirectoryTakesAtOne, EntryComes, EntryLeaves, EntryStaysShown};
 ghost use Rattle.protocol_ties.specs.GoesOn.{MessageGoesOn};
 ghost use Rattle.protocol_ties.specs.MasterTurns.{MasterRunsAreTurns, MasterRunsAreTurnsOfAll};
+ghost use Rattle.protocol_ties.specs.Reports.{ReportsMakeTheEntry};
 
 /// What a master does with a message, as the directory's crate has it, is a run of the protocol of one block: the entry
 /// that it comes to and what it sends are those of the state that the run leads to.
@@ -36,4 +38,16 @@ pub fn an_entry_moves()
 /// none where the message bears no clock there. The entry is shown as before.
 pub fn a_message_goes_on()
     ensures { MessageGoesOn }
+{}
+
+/// What a master's whole directory does with a message on a block is a run of all blocks: that one goes on as its entry
+/// shows, and of any other the entry is as it was, nothing is sent about it, and it sees the risen clock alone.
+pub fn a_message_is_taken_among_all_blocks()
+    ensures { MessageIsTakenAmongAll }
+{}
+
+/// The entry that is made of the reports after a change of membership is the one of the protocol's Thaw: it lists each
+/// image under its new grant.
+pub fn the_reports_make_the_entry()
+    ensures { ReportsMakeTheEntry }
 {}

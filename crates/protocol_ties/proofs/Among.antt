@@ -1,0 +1,35 @@
+-- What a master does with a message, among all blocks.
+use Rattle.std.proofs.Common.{◌≡◌, ◌≢◌, ◌∙◌, ℕ, List, [], ◌∷◌, ◌++◌, refl, sym, ap, subst}
+use Rattle.std.specs.Prelude.{Option, Some, None}
+use Rattle.std.specs.List.{AllByRecursion}
+use Rattle.wire_net.specs.declared.message.Waiting.{Waiting}
+use Rattle.wire_net.specs.declared.entry.Entry.{Entry}
+use Rattle.resource_dir.specs.Takes.{takes}
+use Rattle.block_protocol.specs.Steps.{clock_there}
+use Rattle.block_protocol.specs.AllBlocks.{view}
+use Rattle.block_protocol.proofs.Basics.{all-keep}
+use Rattle.protocol_ties.specs.Messages.{wires_of, block_of_waiting}
+use Rattle.protocol_ties.specs.Entries.{Shows}
+use Rattle.protocol_ties.specs.MasterRuns.{raised}
+use Rattle.protocol_ties.specs.AmongAll.{wires_about, IsTakenAmong, MessageIsTakenAmongAll}
+use Rattle.protocol_ties.proofs.Origins.{some-one}
+use Rattle.protocol_ties.proofs.Reacts.{message-is-a-run}
+use Rattle.protocol_ties.proofs.Directories.{directory-takes-at-one}
+use Rattle.protocol_ties.proofs.Turns.{master-runs-are-turns-of-all}
+use Rattle.protocol_ties.proofs.About.{about-takes, wires-here, wires-there}
+
+pub message-is-taken-among-all : MessageIsTakenAmongAll
+message-is-taken-among-all whole directory me scn b message wires entry era among room =
+    let k = message-is-a-run me scn message wires entry (view whole b).block among.may room in
+    let d = directory-takes-at-one directory b message entry among.sized among.masters in
+    let about = about-takes message (Some b) entry among.about (all-keep (λ w. block_of_waiting w ≡ b) (λ w. Some (block_of_waiting w) ≡ Some b) entry.queue (λ w e. ap (λ n. Some n) e) among.waits) in
+    let sent : wires_about b (clock_there (raised me scn (view whole b).block)) (takes entry message).sends ≡ wires_of (clock_there (raised me scn (view whole b).block)) (takes entry message).sends = wires-here b (clock_there (raised me scn (view whole b).block)) (takes entry message).sends about.0 in
+    record {
+      after = k.after;
+      later = (takes entry message).entry;
+      leads = (master-runs-are-turns-of-all whole me scn b k.after era k.run, k.beside);
+      here = (d.here, all-keep (λ w. Some (block_of_waiting w) ≡ Some b) (λ w. block_of_waiting w ≡ b) (takes entry message).entry.queue (λ w e. some-one (block_of_waiting w) b e) about.1);
+      shows = subst (λ s. Shows (wires_about b (clock_there (raised me scn (view whole b).block)) s ++ wires) (takes entry message).entry k.after) (sym d.sends)
+          (subst (λ l. Shows (l ++ wires) (takes entry message).entry k.after) (sym sent) k.shows);
+      others = λ c ne. (d.others c ne, λ clock. ap (wires_about c clock) d.sends ∙ wires-there b c clock (takes entry message).sends ne about.0);
+    }
