@@ -114,7 +114,7 @@ proper-last (x ∷ queue) w all one = (all.0, proper-last queue w all.1 one)
 same-last : {A : Type 0} (x : A) (xs under : List A) → Same (x ∷ xs) under → Same (xs ++ x ∷ []) under
 same-last x xs under s = same-trans (xs ++ x ∷ []) (x ∷ xs) under (put-both x (xs ++ x ∷ []) xs (x ∷ xs) xs (Takes-last x xs) (here xs) (same-refl xs)) s
 
-append-none : {A : Type 0} (xs : List A) → xs ++ [] ≡ xs
+pub append-none : {A : Type 0} (xs : List A) → xs ++ [] ≡ xs
 append-none [] = refl
 append-none (x ∷ xs) = ap (λ l. x ∷ l) (append-none xs)
 

@@ -16,3 +16,5 @@ pub mod Passes
 pub mod About
 pub mod Among
 pub mod Reports
+pub mod Made
+pub mod Links

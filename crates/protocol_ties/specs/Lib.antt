@@ -7,3 +7,4 @@ pub mod GoesOn
 pub mod Directories
 pub mod AmongAll
 pub mod Reports
+pub mod Bags

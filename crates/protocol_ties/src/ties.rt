@@ -1,9 +1,10 @@
 ghost use Rattle.protocol_ties.specs.Takes.{MessageIsARun};
 ghost use Rattle.protocol_ties.specs.AmongAll.{MessageIsTakenAmongAll};
+ghost use Rattle.protocol_ties.specs.Bags.{NothingIsBorne, SentComesIn, TakenHasGone};
 ghost use Rattle.protocol_ties.specs.Directories.{BucketsMoveWhole, DirectoryDrops, DirectoryTakesAtOne, EntryComes, EntryLeaves, EntryStaysShown};
 ghost use Rattle.protocol_ties.specs.GoesOn.{MessageGoesOn};
 ghost use Rattle.protocol_ties.specs.MasterTurns.{MasterRunsAreTurns, MasterRunsAreTurnsOfAll};
-ghost use Rattle.protocol_ties.specs.Reports.{ReportsMakeTheEntry};
+ghost use Rattle.protocol_ties.specs.Reports.{DirectoryIsMadeByEntries, ReportsMakeTheEntry};
 
 /// What a master does with a message, as the directory's crate has it, is a run of the protocol of one block: the entry
 /// that it comes to and what it sends are those of the state that the run leads to.
@@ -50,4 +51,18 @@ pub fn a_message_is_taken_among_all_blocks()
 /// image under its new grant.
 pub fn the_reports_make_the_entry()
     ensures { ReportsMakeTheEntry }
+{}
+
+/// A directory that is made of the reports has the entry of each block that its instance masters, made of what the reports
+/// tell of that block alone.
+pub fn a_directory_is_made_by_entries()
+    ensures { DirectoryIsMadeByEntries }
+{}
+
+/// What waits on the links is a bag of messages of each block: what is sent comes in, what is taken has gone, whatever the
+/// order on the links.
+pub fn the_links_bear_the_bag()
+    ensures sent { SentComesIn }
+    ensures taken { TakenHasGone }
+    ensures empty { NothingIsBorne }
 {}
