@@ -21,15 +21,13 @@ use Rattle.inst_set.specs.Sets.{all_insts}
 use Rattle.wire_net.specs.Entry.{grant_of, version_of, with_version}
 use Rattle.resource_dir.specs.Holders.{other_than, first_sharer, has_other_sharer, is_other_sharer, is_granting, is_number, taken_out}
 use Rattle.resource_dir.specs.Taken.{Taken, silent, telling, and_then, where_busy, queued}
-use Rattle.resource_dir.specs.Asks.{stepped_out, shared_from, read_beside, invalidates_to, cleared, written_beside, serve, answer, ask, is_clear, go_on_if, go_on_as, go_on}
-use Rattle.resource_dir.specs.Pasts.{is_newer, keep, keep_newer, keep_any, keep_any_newer, drops_to, wrote, plead, answer_plea, write_please}
+use Rattle.resource_dir.specs.Asks.{stepped_out, shared_from, read_beside, invalidates_to, cleared, written_beside, serve, answer, ask, is_clear, go_on_if, go_on_as}
+use Rattle.resource_dir.specs.Pasts.{is_newer, keep, keep_any, keep_any_newer, drops_to, wrote, plead, answer_plea, write_please}
 use Rattle.resource_dir.specs.Ends.{gone, ended, entered, done_if, done_as, done, gave_up, ask_anew, hear_back}
-use Rattle.resource_dir.specs.Takes.{take_up, drain_all, drain, hear_plea, react, takes}
+use Rattle.resource_dir.specs.Takes.{take_up, drain_all, drain, react, takes}
 use Rattle.resource_dir.proofs.DrainLemmas.{take_up-queue}
-use Rattle.block_protocol.specs.Block.{Scn}
-use Rattle.block_protocol.specs.Wire.{Wire}
 use Rattle.protocol_ties.specs.Messages.{wire_of, wires_of, block_of, block_of_waiting}
-use Rattle.protocol_ties.specs.AmongAll.{is_block, wires_at, wires_about}
+use Rattle.protocol_ties.specs.AmongAll.{is_block, wires_about}
 use Rattle.protocol_ties.proofs.Backs.{gone-queue}
 use Rattle.protocol_ties.proofs.Reacts.{done-queue, gave-up-queue}
 

@@ -1,9 +1,6 @@
 -- What a master does with a message, among all blocks.
-use Rattle.std.proofs.Common.{◌≡◌, ◌≢◌, ◌∙◌, ℕ, List, [], ◌∷◌, ◌++◌, refl, sym, ap, subst}
-use Rattle.std.specs.Prelude.{Option, Some, None}
-use Rattle.std.specs.List.{AllByRecursion}
-use Rattle.wire_net.specs.declared.message.Waiting.{Waiting}
-use Rattle.wire_net.specs.declared.entry.Entry.{Entry}
+use Rattle.std.proofs.Common.{◌≡◌, ◌∙◌, ◌++◌, sym, ap, subst}
+use Rattle.std.specs.Prelude.{Some}
 use Rattle.resource_dir.specs.Takes.{takes}
 use Rattle.block_protocol.specs.Steps.{clock_there}
 use Rattle.block_protocol.specs.AllBlocks.{view}
@@ -11,7 +8,7 @@ use Rattle.block_protocol.proofs.Basics.{all-keep}
 use Rattle.protocol_ties.specs.Messages.{wires_of, block_of_waiting}
 use Rattle.protocol_ties.specs.Entries.{Shows}
 use Rattle.protocol_ties.specs.MasterRuns.{raised}
-use Rattle.protocol_ties.specs.AmongAll.{wires_about, IsTakenAmong, MessageIsTakenAmongAll}
+use Rattle.protocol_ties.specs.AmongAll.{wires_about, MessageIsTakenAmongAll}
 use Rattle.protocol_ties.proofs.Origins.{some-one}
 use Rattle.protocol_ties.proofs.Reacts.{message-is-a-run}
 use Rattle.protocol_ties.proofs.Directories.{directory-takes-at-one}

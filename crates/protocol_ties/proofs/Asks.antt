@@ -1,29 +1,28 @@
 -- An Ask is answered, and an operation goes on.
-use Rattle.std.proofs.Common.{◌≡◌, ◌≢◌, ◌∙◌, ℕ, ◌+◌, ◌<◌, ◌≤◌, ◌&&◌, Bool, true, false, cond, not, List, [], ◌∷◌, ◌++◌, refl, sym, ap, subst, arith, eqb, inl, inr, length}
+use Rattle.std.proofs.Common.{◌≡◌, ◌≢◌, ◌∙◌, ℕ, ◌+◌, ◌<◌, ◌&&◌, Bool, true, false, cond, not, List, [], ◌∷◌, ◌++◌, refl, sym, ap, subst, eqb, inl, inr}
 use Rattle.std.specs.Prelude.{map, Option, Some, None, is_some, is_none as is_nothing}
 use Rattle.std.proofs.lemmas.Bool.{eq-eqb, ne_eqb, cases_eq, eqb-true, and_parts}
 use Rattle.wire_net.specs.declared.message.Mode.{Mode as HoldMode}
 use Rattle.wire_net.specs.declared.message.Mode.TheVariants as modes
-use Rattle.wire_net.specs.declared.message.Message.{Message}
 use Rattle.wire_net.specs.declared.entry.Grants.{Grants as GrantTable}
 use Rattle.wire_net.specs.declared.entry.Holder.{Holder}
 use Rattle.wire_net.specs.declared.entry.Operation.{Operation}
 use Rattle.wire_net.specs.declared.entry.Entry.{Entry}
-use Rattle.inst_set.specs.Sets.{has, is_empty}
+use Rattle.inst_set.specs.Sets.{is_empty}
 use Rattle.wire_net.specs.Entry.{grant_of, with_grant}
 use Rattle.resource_dir.specs.Holders.{other_than, is_sharer}
-use Rattle.resource_dir.specs.Taken.{Taken, silent}
+use Rattle.resource_dir.specs.Taken.{silent}
 use Rattle.resource_dir.specs.Asks.{stepped_out, granting, granted, answer, is_clear, go_on_if, go_on_as, go_on}
-use Rattle.block_protocol.specs.Block.{Inst, Mode, Shared, Exclusive, Hold, Want, Read, Write, Upgrade, mode_for, Waits, Grant, Idle, Clears, Grants, Block, put, Operation as ProtocolOperation}
-use Rattle.block_protocol.specs.Sound.{OnlyShared, Sound}
+use Rattle.block_protocol.specs.Block.{Exclusive, Hold, Want, Read, Write, Upgrade, mode_for, Waits, Grant, Idle, Clears, Grants, Block, put, Operation as ProtocolOperation}
+use Rattle.block_protocol.specs.Sound.{Sound}
 use Rattle.block_protocol.specs.Steps.{Step, is_none, clock_there, steps_back, gives}
 use Rattle.block_protocol.specs.Wire.{Wire, GrantWire, of_operation, of_request, of_waiting, gather, of_note, of_memo, flights, Same}
 use Rattle.block_protocol.proofs.Basics.{put-same, put-elim}
 use Rattle.block_protocol.proofs.Directory.{Sound-step}
 use Rattle.block_protocol.proofs.Keep.{Sound-at}
 use Rattle.protocol_ties.specs.Messages.{instances, want_of, wires_of}
-use Rattle.protocol_ties.specs.Entries.{shared_hold, listed_beside, listing_of, IsAwaited, IsClearing, IsOperation, Tied}
-use Rattle.protocol_ties.specs.MasterRuns.{MasterRun, stays, goes}
+use Rattle.protocol_ties.specs.Entries.{shared_hold, listed_beside, listing_of, IsClearing, IsOperation}
+use Rattle.protocol_ties.specs.MasterRuns.{stays, goes}
 use Rattle.protocol_ties.specs.Takes.{HasRoom}
 use Rattle.protocol_ties.proofs.Bag.{same-under}
 use Rattle.protocol_ties.proofs.Tables.{grant-none, table-sized, empty-has}

@@ -1,24 +1,23 @@
 -- A message that found no image comes back to the master.
-use Rattle.std.proofs.Common.{◌≡◌, ◌≢◌, ◌∙◌, ℕ, ◌+◌, ◌<◌, ◌≤◌, ◌&&◌, Bool, true, false, cond, List, [], ◌∷◌, ◌++◌, refl, sym, ap, subst, arith}
+use Rattle.std.proofs.Common.{◌≡◌, ◌∙◌, ℕ, ◌≤◌, ◌&&◌, Bool, true, false, cond, List, ◌∷◌, ◌++◌, refl, sym, ap, subst}
 use Rattle.std.specs.Prelude.{map, Option, Some, None, length, is_none as is_nothing}
 use Rattle.std.specs.List.{AllByRecursion}
 use Rattle.std.proofs.lemmas.Bool.{eq-eqb, ne_eqb}
 use Rattle.wire_net.specs.declared.message.Mode.{Mode as HoldMode}
 use Rattle.wire_net.specs.declared.message.Mode.TheVariants as modes
-use Rattle.wire_net.specs.declared.message.Waiting.{Waiting}
 use Rattle.wire_net.specs.declared.entry.Operation.{Operation}
 use Rattle.wire_net.specs.declared.entry.Entry.{Entry}
 use Rattle.inst_set.specs.Sets.{is_empty, without_inst}
 use Rattle.resource_dir.specs.Holders.{is_granting, is_number, taken_out, sharer_under, unwaited}
-use Rattle.resource_dir.specs.Taken.{Taken, silent, and_then}
+use Rattle.resource_dir.specs.Taken.{silent, and_then}
 use Rattle.resource_dir.specs.Asks.{ask, answer, is_clear, go_on_if, go_on_as, go_on}
 use Rattle.resource_dir.specs.Pasts.{write_please}
 use Rattle.resource_dir.specs.Ends.{gone, gave_up, ended, ask_anew}
 use Rattle.resource_dir.proofs.DrainLemmas.{take_up-queue}
 use Rattle.wire_net.specs.declared.message.Waiting.TheVariants as waiting
-use Rattle.block_protocol.specs.Block.{Inst, Mode, Shared, Exclusive, Hold, Want, Read, Request, Quiet, Waits, BackCopy, BackShip, Idle, Clears, Grants, Note, BackWrite, Memo, Please, Block, put, without, Takes, Operation as ProtocolOperation}
+use Rattle.block_protocol.specs.Block.{Hold, Read, Quiet, Waits, BackCopy, BackShip, Idle, Clears, Grants, BackWrite, Please, Block, put, without, Operation as ProtocolOperation}
 use Rattle.block_protocol.specs.Sound.{IsOld, RequestFits, NoteFits, Sound}
-use Rattle.block_protocol.specs.Steps.{Step, clock_there, wanted_again, asks_copy_again, asks_ship_again, hears_back_write, pleads}
+use Rattle.block_protocol.specs.Steps.{clock_there, wanted_again, asks_copy_again, asks_ship_again, hears_back_write, pleads}
 use Rattle.block_protocol.specs.Wire.{Wire, BackCopyWire, BackShipWire, BackWriteWire, PleaseWire, of_operation, of_request, of_waiting, gather, of_note, of_memo, flights, Same, more}
 use Rattle.block_protocol.proofs.Basics.{all-taken, put-same}
 use Rattle.block_protocol.proofs.Directory.{Sound-step}
@@ -27,15 +26,14 @@ use Rattle.block_protocol.proofs.Bags.{Takes-right}
 use Rattle.block_protocol.specs.Block.{here}
 use Rattle.block_protocol.proofs.RefinesAsk.{gather-comes, gather-none}
 use Rattle.protocol_ties.specs.Messages.{instances, want_of, wires_of, asks_of, pleas_of}
-use Rattle.protocol_ties.specs.Entries.{IsGranting, IsOperation, IsProper, Tied}
-use Rattle.protocol_ties.specs.MasterRuns.{MasterRun, stays, goes, LeavesRest}
+use Rattle.protocol_ties.specs.Entries.{IsGranting, IsOperation, IsProper}
+use Rattle.protocol_ties.specs.MasterRuns.{stays, goes}
 use Rattle.protocol_ties.specs.Takes.{HasRoom}
-use Rattle.protocol_ties.proofs.Bag.{first-of, waiting-of}
-use Rattle.protocol_ties.proofs.Goes.{TiedTo, Goes, goes-before, sound-after, clock-same}
+use Rattle.protocol_ties.proofs.Goes.{TiedTo, Goes, goes-before, sound-after}
 use Rattle.protocol_ties.proofs.Asks.{answered, goes-on}
 use Rattle.protocol_ties.proofs.Hears.{tied-without, out-by}
 use Rattle.protocol_ties.proofs.Drains.{Reacts, reacts-then, reacts-by, bag-next, asked, pleaded}
-use Rattle.protocol_ties.proofs.Origins.{some-one, note-taken, request-taken, carrier-taken}
+use Rattle.protocol_ties.proofs.Origins.{note-taken, request-taken, carrier-taken}
 
 -- an operation that grants another grant isn't ended by this one
 not-granting : (g : ℕ) (op : Option Operation) (other : ProtocolOperation) (lists : ℕ → Option Hold) → IsOperation op other lists → IsOld other g → is_granting op g ≡ false

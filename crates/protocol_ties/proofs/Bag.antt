@@ -1,13 +1,13 @@
 -- Bags of messages: what one thing after another makes of them, and where a message that is under way comes from.
-use Rattle.std.proofs.Common.{◌≡◌, ◌∙◌, ℕ, ◌<◌, List, [], ◌∷◌, ◌++◌, refl, sym, ap, subst, arith, inl, inr, ◌⊎◌, Bool, true, false, append_assoc}
-use Rattle.std.specs.Prelude.{map, flat_map, option_to_list, Option, Some, None}
+use Rattle.std.proofs.Common.{◌≡◌, ◌∙◌, ℕ, ◌<◌, List, [], ◌∷◌, ◌++◌, refl, sym, ap, subst, arith, inl, inr, Bool, true, false, append_assoc}
+use Rattle.std.specs.Prelude.{map, option_to_list}
 use Rattle.std.proofs.lemmas.Grind.{flat_map-append}
 use Prim.Native.Nat.{zero, suc}
 use Rattle.wire_net.specs.declared.message.Message.{Message}
-use Rattle.block_protocol.specs.Block.{Inst, Want, Request, Quiet, Asks, Waits, CopyTo, BackCopy, Copy, ShipTo, BackShip, Shipped, Grant, Done, Operation, Idle, Clears, Grants, Note, Invalidate, Gone, GaveUp, WritePlease, BackWrite, Stale, Memo, Please, Wrote, DropPast, Block, Takes, here, there}
-use Rattle.block_protocol.specs.Wire.{Wire, Ask, CopyToWire, BackCopyWire, CopyWire, ShipToWire, BackShipWire, ShippedWire, GrantWire, DoneWire, InvalidateWire, GoneWire, GaveUpWire, WritePleaseWire, BackWriteWire, PleaseWire, WroteWire, DropPastWire, of_operation, of_request, of_waiting, gather, of_note, of_memo, flights, Same, none, more}
-use Rattle.block_protocol.proofs.Bags.{taken-left, Takes-of, Takes-map, same-refl, same-move, same-rest}
-use Rattle.block_protocol.proofs.Origin.{of-operation-carried, of-request-asked, of-note-noted, is_told}
+use Rattle.block_protocol.specs.Block.{Want, Request, Quiet, Asks, Waits, CopyTo, BackCopy, Copy, ShipTo, BackShip, Shipped, Grant, Done, Operation, Idle, Clears, Grants, Note, Invalidate, Gone, GaveUp, WritePlease, BackWrite, Stale, Memo, Block, Takes, here, there}
+use Rattle.block_protocol.specs.Wire.{Wire, Ask, CopyToWire, BackCopyWire, CopyWire, ShipToWire, BackShipWire, ShippedWire, GrantWire, DoneWire, of_operation, of_request, of_waiting, gather, of_note, of_memo, flights, Same, none, more}
+use Rattle.block_protocol.proofs.Bags.{taken-left, Takes-of, Takes-map, same-move, same-rest}
+use Rattle.block_protocol.proofs.Origin.{is_told}
 use Rattle.protocol_ties.specs.Messages.{instances, wire_of, wires_of}
 
 pub same-trans : {A : Type 0} (xs ys zs : List A) → Same xs ys → Same ys zs → Same xs zs

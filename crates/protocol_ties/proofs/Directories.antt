@@ -1,22 +1,20 @@
 -- The entries of a whole directory.
-use Rattle.std.proofs.Common.{◌≡◌, ◌≢◌, ◌∙◌, ℕ, ◌+◌, ◌*◌, ◌/◌, ◌%◌, ◌<◌, ◌≤◌, Bool, true, false, cond, List, [], ◌∷◌, refl, sym, ap, subst, arith, inl, inr, length}
+use Rattle.std.proofs.Common.{◌≡◌, ◌≢◌, ◌∙◌, ℕ, ◌+◌, ◌*◌, ◌/◌, ◌%◌, ◌<◌, ◌≤◌, Bool, true, false, cond, List, [], refl, sym, ap, arith, inl, inr, length}
 use Rattle.std.specs.Prelude.{max, Option, Some, None, slice_index_or, slice_set, slice_get, nat_lt}
 use Rattle.std.proofs.lemmas.Bool.{cases_eq, cases_lt, lt-ltb, ltb-true}
-use Rattle.std.proofs.lemmas.List.{get_or_past, get_or-set_same, get_or-set_other, length-set, set-get_or, set_past}
+use Rattle.std.proofs.lemmas.List.{get_or-set_same, get_or-set_other, length-set, set-get_or, set_past}
 use Rattle.std.proofs.lemmas.Option.{slice_get_past, slice_get_within, slice_get-get_or, get_or_from_slice_get}
 use Rattle.std.proofs.lemmas.Nat.{div-add-mod'}
-use Rattle.wire_net.specs.declared.message.Message.{Message}
 use Rattle.wire_net.specs.declared.entry.Entry.{Entry}
 use Rattle.wire_net.specs.Entry.{empty_entry}
 use Rattle.resource_dir.specs.declared.directory.Directory.{Directory}
 use Rattle.resource_dir.specs.Directory.{bucket_of, with_bucket, entry_in, entry_of, bucket_takes, DirectoryTaken, directory_takes_in, directory_takes}
 use Rattle.resource_dir.specs.Takes.{takes}
-use Rattle.block_protocol.specs.Block.{Inst, Scn, At, Moves, Block, put}
+use Rattle.block_protocol.specs.Block.{At, Moves, put}
 use Rattle.block_protocol.specs.Steps.{sends_entry, takes_entry}
 use Rattle.block_protocol.proofs.Basics.{none-some, put-same}
-use Rattle.protocol_ties.specs.Entries.{Tied, Shows}
-use Rattle.protocol_ties.specs.MasterRuns.{MasterRun, stays, goes, raised}
-use Rattle.protocol_ties.specs.Directories.{IsSized, TakesAtOne, DirectoryTakesAtOne, DirectoryDrops, MovesWhole, BucketsMoveWhole, EntryLeaves, EntryComes, EntryStaysShown}
+use Rattle.protocol_ties.specs.MasterRuns.{stays, goes, raised}
+use Rattle.protocol_ties.specs.Directories.{IsSized, TakesAtOne, DirectoryTakesAtOne, DirectoryDrops, BucketsMoveWhole, EntryLeaves, EntryComes, EntryStaysShown}
 
 below : (n : ℕ) → n % 16 < 16
 below n = omega arith
@@ -97,7 +95,7 @@ directory-drops directory b message there = go (bucket_of directory (b % 16)) re
         let ge = past entries at in
         let same : slice_set entries (b / 16) (takes (slice_index_or entries (b / 16) empty_entry) message).entry ≡ entries = set_past entries (b / 16) (takes (slice_index_or entries (b / 16) empty_entry) message).entry ge in
         let back : with_bucket directory (b % 16) (Some entries) ≡ directory =
-            ap {A = List (Option (List Entry))} {B = Directory} (λ l. record { buckets = l }) (ap (λ o. slice_set directory.buckets (b % 16) o) (sym e) ∙ set-get_or directory.buckets (b % 16) None) in
+        ap {A = List (Option (List Entry))} {B = Directory} (λ l. record { buckets = l }) (ap (λ o. slice_set directory.buckets (b % 16) o) (sym e) ∙ set-get_or directory.buckets (b % 16) None) in
         ap (λ o. directory_takes_in directory (b % 16) o (b / 16) message) e
         ∙ ap {A = List Entry} {B = DirectoryTaken} (λ l. record { directory = with_bucket directory (b % 16) (Some l); sends = (bucket_takes entries (b / 16) message).sends }) same
         ∙ ap {A = Directory} {B = DirectoryTaken} (λ d. record { directory = d; sends = (bucket_takes entries (b / 16) message).sends }) back

@@ -1,6 +1,6 @@
 -- What waits in the queue is taken up, and an Ask or a plea comes to it.
-use Rattle.std.proofs.Common.{◌≡◌, ◌∙◌, ℕ, ◌+◌, ◌<◌, ◌≤◌, Bool, true, false, cond, List, [], ◌∷◌, ◌++◌, refl, sym, ap, subst, arith, append_assoc}
-use Rattle.std.specs.Prelude.{map, flat_map, option_map, option_to_list, Option, Some, None, nat_le}
+use Rattle.std.proofs.Common.{◌≡◌, ◌∙◌, ℕ, Bool, true, false, cond, List, [], ◌∷◌, ◌++◌, refl, sym, ap, subst, append_assoc}
+use Rattle.std.specs.Prelude.{option_map, option_to_list, Option, Some, None, nat_le}
 use Rattle.std.specs.List.{AllByRecursion}
 use Rattle.std.proofs.lemmas.Grind.{flat_map-append}
 use Rattle.wire_net.specs.declared.message.Mode.{Mode as HoldMode}
@@ -13,17 +13,16 @@ use Rattle.wire_net.specs.declared.entry.Operation.{Operation}
 use Rattle.wire_net.specs.declared.entry.Entry.{Entry}
 use Rattle.resource_dir.specs.Taken.{Taken, silent, telling, and_then, where_busy, queued}
 use Rattle.resource_dir.specs.Asks.{answer, ask}
-use Rattle.resource_dir.specs.Pasts.{plead, answer_plea, write_please}
-use Rattle.resource_dir.specs.Takes.{take_up, drain_all, drain}
+use Rattle.resource_dir.specs.Pasts.{plead, write_please}
+use Rattle.resource_dir.specs.Takes.{take_up, drain_all}
 use Rattle.resource_dir.proofs.DrainLemmas.{take_up-queue}
-use Rattle.block_protocol.specs.Block.{Inst, Want, Waits, Idle, Clears, Grants, Block, Operation as ProtocolOperation, here}
+use Rattle.block_protocol.specs.Block.{Want, Idle, Clears, Grants, Block, Operation as ProtocolOperation, here}
 use Rattle.block_protocol.specs.Sound.{Sound}
-use Rattle.block_protocol.specs.Steps.{Step, clock_there}
-use Rattle.block_protocol.specs.Wire.{Wire, PleaseWire, of_waiting, gather, flights, Same, more}
+use Rattle.block_protocol.specs.Steps.{clock_there}
+use Rattle.block_protocol.specs.Wire.{Wire, PleaseWire, of_waiting, gather, flights, Same}
 use Rattle.block_protocol.proofs.Bags.{same-refl, same-move, put-both, Takes-last}
 use Rattle.protocol_ties.specs.Messages.{instances, want_of, wires_of, ask_of, asks_of, waiting_plea, pleas_of}
-use Rattle.protocol_ties.specs.Entries.{IsOperation, IsProper, Tied}
-use Rattle.protocol_ties.specs.MasterRuns.{MasterRun, LeavesRest}
+use Rattle.protocol_ties.specs.Entries.{IsOperation, IsProper}
 use Rattle.protocol_ties.specs.Takes.{HasRoom}
 use Rattle.protocol_ties.proofs.Bag.{same-trans, sent-after, first-of, waiting-of}
 use Rattle.protocol_ties.proofs.Goes.{TiedTo, Goes, nothing-done, sound-after, run-trans, rest-trans, clock-same}

@@ -1,6 +1,6 @@
 -- What a part of a master's handler does is a run, and one part goes after another.
-use Rattle.std.proofs.Common.{◌≡◌, ◌∙◌, ℕ, ◌+◌, ◌<◌, ◌-◌, ◌^◌, List, [], ◌∷◌, ◌++◌, refl, sym, ap, subst, arith}
-use Rattle.std.specs.Prelude.{map, Option, Some, None, min}
+use Rattle.std.proofs.Common.{◌≡◌, ◌∙◌, ℕ, ◌+◌, ◌<◌, ◌-◌, ◌^◌, List, ◌∷◌, ◌++◌, refl, sym, ap, subst, arith}
+use Rattle.std.specs.Prelude.{map, Option, Some, None}
 use Rattle.wire_net.specs.declared.message.Mode.{Mode as HoldMode}
 use Rattle.wire_net.specs.declared.message.Message.{Message}
 use Rattle.wire_net.specs.declared.entry.Operation.{Operation}
@@ -9,18 +9,17 @@ use Rattle.inst_set.specs.Sets.{no_insts}
 use Rattle.resource_dir.specs.Holders.{grant_after}
 use Rattle.resource_dir.specs.Taken.{Taken, silent, and_then}
 use Rattle.resource_dir.specs.Asks.{granting}
-use Rattle.block_protocol.specs.Block.{Inst, Scn, Mode, Hold, Want, Quiet, Waits, Carrier, Grants, Idle, Block, put, Takes}
+use Rattle.block_protocol.specs.Block.{Mode, Want, Quiet, Waits, Carrier, Grants, Idle, Block, put}
 use Rattle.block_protocol.specs.Sound.{Sound}
-use Rattle.block_protocol.specs.Steps.{Step, clock_there}
+use Rattle.block_protocol.specs.Steps.{clock_there}
 use Rattle.block_protocol.specs.Wire.{Wire, of_operation, of_request, of_waiting, gather, of_note, of_memo, flights, Same}
 use Rattle.block_protocol.proofs.Directory.{Sound-step}
-use Rattle.block_protocol.proofs.Bags.{same-rest}
 use Rattle.block_protocol.proofs.RefinesAsk.{gather-taken, gather-none}
 use Rattle.protocol_ties.specs.Messages.{instances, hold_of, wires_of}
 use Rattle.protocol_ties.specs.Entries.{Tied}
-use Rattle.protocol_ties.specs.MasterRuns.{IsMasters, MasterRun, stays, goes, LeavesRest}
+use Rattle.protocol_ties.specs.MasterRuns.{MasterRun, stays, goes, LeavesRest}
 use Rattle.protocol_ties.specs.Takes.{HasRoom}
-use Rattle.protocol_ties.proofs.Bag.{same-under, sent-after, first-of, left-by}
+use Rattle.protocol_ties.proofs.Bag.{same-under, sent-after, left-by}
 
 -- the parts of an entry that the protocol has
 abbrev pub TiedTo : Entry → Block → Type 0

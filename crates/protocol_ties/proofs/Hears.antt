@@ -1,36 +1,31 @@
 -- A master hears what ends a hold or an operation.
-use Rattle.std.proofs.Common.{◌≡◌, ◌≢◌, ◌∙◌, ℕ, ◌+◌, ◌<◌, ◌≤◌, Bool, true, false, cond, not, List, [], ◌∷◌, ◌++◌, refl, sym, ap, subst, arith, eqb, inl, inr, length}
-use Rattle.std.specs.Prelude.{map, Option, Some, None, is_some, nat_le}
-use Rattle.std.specs.List.{AllByRecursion}
-use Rattle.std.proofs.lemmas.Bool.{eq-eqb, ne_eqb, cases_lt, eqb-true, eqb-false, leb-true}
+use Rattle.std.proofs.Common.{◌≡◌, ◌≢◌, ◌∙◌, ℕ, ◌<◌, ◌≤◌, Bool, true, false, cond, List, [], ◌∷◌, ◌++◌, refl, sym, ap, subst, arith, inl, inr, length}
+use Rattle.std.specs.Prelude.{map, Option, Some, None, nat_le}
+use Rattle.std.proofs.lemmas.Bool.{eq-eqb, ne_eqb, cases_lt, leb-true}
 use Rattle.wire_net.specs.declared.message.Mode.{Mode as HoldMode}
 use Rattle.wire_net.specs.declared.message.Mode.TheVariants as modes
-use Rattle.wire_net.specs.declared.message.Message.{Message}
 use Rattle.wire_net.specs.declared.message.Message.TheVariants as messages
-use Rattle.wire_net.specs.declared.entry.Grants.{Grants as GrantTable}
-use Rattle.wire_net.specs.declared.entry.Holder.{Holder}
 use Rattle.wire_net.specs.declared.entry.PastHolder.{PastHolder}
 use Rattle.wire_net.specs.declared.entry.Operation.{Operation}
 use Rattle.wire_net.specs.declared.entry.Entry.{Entry}
 use Rattle.wire_net.specs.Entry.{grant_of, with_grant, no_grants, version_of, with_version}
-use Rattle.resource_dir.specs.Holders.{is_granting, is_number, taken_out, sharer_under, unshared, unwaited, under_other}
-use Rattle.resource_dir.specs.Taken.{Taken, silent, telling, and_then}
-use Rattle.resource_dir.specs.Asks.{go_on}
-use Rattle.resource_dir.specs.Pasts.{is_newer, keep, keep_newer, keep_any, keep_any_newer}
+use Rattle.resource_dir.specs.Holders.{is_granting, is_number, taken_out}
+use Rattle.resource_dir.specs.Taken.{silent, telling}
+use Rattle.resource_dir.specs.Pasts.{is_newer, keep, keep_any, keep_any_newer}
 use Rattle.resource_dir.specs.Ends.{gone, ended, entered, done_if, done_as, done, gave_up}
-use Rattle.block_protocol.specs.Block.{Inst, Mode, Shared, Exclusive, Hold, Want, Carrier, Done, Idle, Clears, Grants, Gone, GaveUp, BackWrite, Stale, Note, Memo, DropPast, Request, Block, put, without, Takes, Operation as ProtocolOperation, entered as entered_there}
+use Rattle.block_protocol.specs.Block.{Shared, Exclusive, Hold, Want, Carrier, Done, Idle, Clears, Grants, Gone, GaveUp, Stale, Note, DropPast, Request, Block, put, without, Takes, Operation as ProtocolOperation, entered as entered_there}
 use Rattle.block_protocol.specs.Sound.{IsSettled, NoteFits, Sound}
-use Rattle.block_protocol.specs.Steps.{Step, clock_there, hears_gone, hears_back_write, hears_gave_up, ends, ends_before_done, drops_stale, lets_drop}
-use Rattle.block_protocol.specs.Wire.{Wire, DoneWire, GoneWire, GaveUpWire, BackWriteWire, DropPastWire, of_operation, of_request, of_waiting, gather, of_note, of_memo, flights, Same, more}
-use Rattle.block_protocol.proofs.Basics.{none-some, put-same, put-other, put-elim, all-taken}
+use Rattle.block_protocol.specs.Steps.{Step, clock_there, hears_gone, hears_gave_up, ends, ends_before_done, drops_stale, lets_drop}
+use Rattle.block_protocol.specs.Wire.{Wire, DoneWire, GoneWire, GaveUpWire, DropPastWire, of_operation, of_request, of_waiting, gather, of_note, of_memo, flights, Same, more}
+use Rattle.block_protocol.proofs.Basics.{none-some, put-elim, all-taken}
 use Rattle.block_protocol.proofs.Directory.{Sound-step}
 use Rattle.block_protocol.proofs.Keep.{Sound-at}
 use Rattle.block_protocol.proofs.Bags.{Takes-right, same-move}
 use Rattle.block_protocol.proofs.Origin.{Origin, origin, carried, asked, noted, told, of-request-asked, of-memo-told}
 use Rattle.block_protocol.specs.Block.{here}
-use Rattle.protocol_ties.specs.Messages.{instances, hold_of, wires_of}
-use Rattle.protocol_ties.specs.Entries.{shared_hold, listed_beside, listing_of, IsGranting, IsOperation, Tied}
-use Rattle.protocol_ties.specs.MasterRuns.{IsMasters, MasterRun, stays, goes}
+use Rattle.protocol_ties.specs.Messages.{instances, hold_of}
+use Rattle.protocol_ties.specs.Entries.{shared_hold, listed_beside, listing_of, IsGranting, IsOperation}
+use Rattle.protocol_ties.specs.MasterRuns.{IsMasters, stays, goes}
 use Rattle.protocol_ties.specs.Takes.{HasRoom}
 use Rattle.protocol_ties.proofs.Bag.{same-trans, first-of, TakenFirst}
 use Rattle.protocol_ties.proofs.Tables.{past-none, each-of, grant-same, grant-other, table-sized, is-number, not-number}

@@ -18,3 +18,4 @@ pub mod Among
 pub mod Reports
 pub mod Made
 pub mod Links
+pub mod SampleStates

@@ -1,5 +1,5 @@
 -- The links bear the bag.
-use Rattle.std.proofs.Common.{◌≡◌, ◌≢◌, ◌∙◌, ℕ, ◌+◌, ◌*◌, ◌/◌, ◌%◌, ◌<◌, List, [], ◌∷◌, ◌++◌, refl, sym, ap, subst, arith, length, nat_le, if◌then◌else◌, append_assoc}
+use Rattle.std.proofs.Common.{◌≡◌, ◌∙◌, ℕ, ◌+◌, ◌*◌, ◌/◌, ◌%◌, ◌<◌, List, [], ◌∷◌, ◌++◌, refl, sym, ap, subst, arith, length, nat_le, if◌then◌else◌, append_assoc}
 use Rattle.std.specs.Prelude.{flat_map, Option, Some, None, slice_get, slice_index_or, slice_set, drop, replicate}
 use Rattle.std.proofs.lemmas.List.{get_or-set_same, set-get_or, set-set, length-set}
 use Rattle.std.proofs.lemmas.Grind.{flat_map-append}
@@ -8,11 +8,10 @@ use Prim.Native.Nat.{zero, suc}
 use Rattle.wire_net.specs.declared.message.Lane.{Lane}
 use Rattle.wire_net.specs.declared.message.Lane.TheVariants.{Main, Undo}
 use Rattle.wire_net.specs.declared.message.Packet.{Packet}
-use Rattle.wire_net.specs.Links.{lane_for, place_of, waiting_on, first_on, no_packets, sent, taken}
+use Rattle.wire_net.specs.Links.{lane_for, place_of, waiting_on, first_on, taken}
 use Rattle.wire_net.proofs.PlaceLemmas.{place-below}
 use Rattle.block_protocol.specs.Wire.{Wire, Same, none, more}
 use Rattle.block_protocol.proofs.Bags.{Takes-left, same-refl, same-move}
-use Rattle.protocol_ties.specs.Messages.{instances}
 use Rattle.protocol_ties.specs.AmongAll.{wires_at}
 use Rattle.protocol_ties.specs.Bags.{receiver_at, wires_in, bag_from, bag_of, SentComesIn, TakenHasGone, NothingIsBorne}
 use Rattle.protocol_ties.proofs.Bag.{same-trans, same-under}
@@ -70,9 +69,9 @@ module _ (b : ℕ) (links : List (List Packet)) (from to : ℕ) (lane : Lane) (a
       let long : length (taken links from to lane) ≡ length links = length-set links (place_of from to lane) (drop 1 (waiting_on links from to lane)) in
       let left : slice_index_or (taken links from to lane) (place_of from to lane) [] ≡ drop 1 (waiting_on links from to lane) = get_or-set_same links (place_of from to lane) (drop 1 (waiting_on links from to lane)) [] within in
       let back : slice_set (taken links from to lane) (place_of from to lane) (waiting_on links from to lane) ≡ links =
-          set-set links (place_of from to lane) (drop 1 (waiting_on links from to lane)) (waiting_on links from to lane) ∙ set-get_or links (place_of from to lane) [] in
+      set-set links (place_of from to lane) (drop 1 (waiting_on links from to lane)) (waiting_on links from to lane) ∙ set-get_or links (place_of from to lane) [] in
       let whole : flat_map (wires_in b (0 + place_of from to lane)) (waiting_on links from to lane) ≡ wires_at b packet.scn (to, packet.message) ++ flat_map (wires_in b (0 + place_of from to lane)) (drop 1 (waiting_on links from to lane)) =
-          ap (flat_map (wires_in b (0 + place_of from to lane))) (first-rest (waiting_on links from to lane) packet first) ∙ ap (λ l. l ++ flat_map (wires_in b (0 + place_of from to lane)) (drop 1 (waiting_on links from to lane))) (own packet) in
+      ap (flat_map (wires_in b (0 + place_of from to lane))) (first-rest (waiting_on links from to lane) packet first) ∙ ap (λ l. l ++ flat_map (wires_in b (0 + place_of from to lane)) (drop 1 (waiting_on links from to lane))) (own packet) in
       subst (λ l. Same (wires_at b packet.scn (to, packet.message) ++ bag_of b (taken links from to lane)) (bag_of b l)) back
       (bag-set b 0 (place_of from to lane) (taken links from to lane) (waiting_on links from to lane) (wires_at b packet.scn (to, packet.message)) (let lt = within in omega (arith, long, lt))
       (subst (λ l. Same (wires_at b packet.scn (to, packet.message) ++ flat_map (wires_in b (0 + place_of from to lane)) l) (flat_map (wires_in b (0 + place_of from to lane)) (waiting_on links from to lane))) (sym left)

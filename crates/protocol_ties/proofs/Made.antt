@@ -1,14 +1,12 @@
 -- A directory is made of the reports, entry by entry.
-use Rattle.std.proofs.Common.{◌≡◌, ◌∙◌, ℕ, ◌+◌, ◌*◌, ◌/◌, ◌%◌, ◌<◌, Bool, true, false, cond, List, [], ◌∷◌, refl, sym, ap, subst, arith, eqb, length}
+use Rattle.std.proofs.Common.{◌≡◌, ◌∙◌, ℕ, ◌+◌, ◌*◌, ◌/◌, ◌%◌, ◌<◌, Bool, true, false, cond, List, refl, ap, arith, eqb}
 use Rattle.std.specs.Prelude.{map, Option, Some, None, slice_index, slice_index_or, slice_get}
 use Rattle.std.proofs.lemmas.Nat.{div-add-mod'}
 use Prim.Native.Nat.{zero, suc}
 use Rattle.wire_net.specs.declared.report.Report.{Report}
-use Rattle.wire_net.specs.declared.masters.Masters.{Masters}
-use Rattle.wire_net.specs.declared.entry.Entry.{Entry}
 use Rattle.wire_net.specs.Masters.{all_buckets, master_of}
-use Rattle.resource_dir.specs.Directory.{entry_in, entry_of}
-use Rattle.resource_dir.specs.Rebuilt.{rebuilt, rebuilt_bucket, rebuilt_at, rebuilt_directory}
+use Rattle.resource_dir.specs.Directory.{entry_in}
+use Rattle.resource_dir.specs.Rebuilt.{rebuilt, rebuilt_bucket, rebuilt_at}
 use Rattle.protocol_ties.specs.Reports.{DirectoryIsMadeByEntries}
 
 module _ {A : Type 0} (f : ℕ → Option A) where

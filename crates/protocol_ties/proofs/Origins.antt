@@ -1,13 +1,13 @@
 -- Which note, memo or request a message is, and what is left without it.
-use Rattle.std.proofs.Common.{◌≡◌, ◌∙◌, ℕ, ◌<◌, Bool, true, false, List, [], ◌∷◌, ◌++◌, refl, sym, ap, subst}
+use Rattle.std.proofs.Common.{◌≡◌, ◌∙◌, ℕ, ◌<◌, true, false, List, [], ◌∷◌, ◌++◌, refl, sym, ap, subst}
 use Rattle.std.specs.Prelude.{map, Option, Some, None}
-use Rattle.block_protocol.specs.Block.{Inst, Want, Request, Quiet, Asks, Waits, CopyTo, BackCopy, Copy, ShipTo, BackShip, Shipped, Grant, Done, Operation, Idle, Clears, Grants, Hold, Note, Invalidate, Gone, GaveUp, WritePlease, BackWrite, Stale, Memo, Please, Wrote, DropPast, Block, put, Takes}
-use Rattle.block_protocol.specs.Wire.{Wire, Ask, CopyToWire, BackCopyWire, CopyWire, ShipToWire, BackShipWire, ShippedWire, GrantWire, DoneWire, InvalidateWire, GoneWire, GaveUpWire, WritePleaseWire, BackWriteWire, PleaseWire, WroteWire, DropPastWire, of_operation, of_request, of_waiting, gather, of_note, of_memo, flights, Same}
-use Rattle.block_protocol.proofs.Bags.{Takes-left, Takes-right, same-rest}
+use Rattle.block_protocol.specs.Block.{Request, Quiet, Asks, Waits, CopyTo, BackCopy, Copy, ShipTo, BackShip, Shipped, Grant, Done, Operation, Idle, Clears, Grants, Hold, Note, Invalidate, Gone, GaveUp, WritePlease, BackWrite, Stale, Memo, Please, Wrote, DropPast, Block, put, Takes}
+use Rattle.block_protocol.specs.Wire.{Wire, Ask, CopyToWire, BackCopyWire, CopyWire, ShipToWire, BackShipWire, ShippedWire, GrantWire, DoneWire, InvalidateWire, GoneWire, GaveUpWire, WritePleaseWire, BackWriteWire, PleaseWire, WroteWire, DropPastWire, of_operation, of_request, gather, of_note, of_memo, flights, Same}
+use Rattle.block_protocol.proofs.Bags.{Takes-left, Takes-right}
 use Rattle.block_protocol.proofs.RefinesAsk.{gather-taken}
-use Rattle.block_protocol.proofs.Origin.{is_told, is_carried, is_asked, is_noted, the-note, TheNote, the-request, the-carrier}
+use Rattle.block_protocol.proofs.Origin.{is_told, is_carried, is_asked, is_noted, the-note, the-request, the-carrier}
 use Rattle.protocol_ties.specs.Messages.{instances}
-use Rattle.protocol_ties.proofs.Bag.{first-of, left-by, the-memo, TheMemo}
+use Rattle.protocol_ties.proofs.Bag.{first-of, left-by, the-memo}
 
 pub some-one : {A : Type 0} (a b : A) → Some a ≡ Some b → a ≡ b
 some-one a b e = cc

@@ -1,20 +1,19 @@
 -- The holder of a grant is taken out: of the entry as of the protocol's listing.
-use Rattle.std.proofs.Common.{◌≡◌, ◌≢◌, ◌∙◌, ℕ, ◌<◌, ◌≤◌, ◌&&◌, Bool, true, false, cond, not, List, [], ◌∷◌, refl, sym, ap, subst, arith, eqb, inl, inr, ◌⊎◌, length}
-use Rattle.std.specs.Prelude.{Option, Some, None, is_some, find}
-use Rattle.std.proofs.lemmas.Bool.{eq-eqb, ne_eqb, cases_eq, cases_lt, eqb-true, eqb-false}
+use Rattle.std.proofs.Common.{◌≡◌, ◌≢◌, ◌∙◌, ℕ, ◌&&◌, Bool, true, false, cond, not, refl, sym, ap, subst, eqb, inl, inr, length}
+use Rattle.std.specs.Prelude.{Option, Some, None, is_some}
+use Rattle.std.proofs.lemmas.Bool.{eq-eqb, ne_eqb, cases_eq, cases_lt}
 use Rattle.wire_net.specs.declared.entry.Grants.{Grants}
 use Rattle.wire_net.specs.declared.entry.Holder.{Holder}
 use Rattle.wire_net.specs.declared.entry.Operation.{Operation}
-use Rattle.wire_net.specs.declared.entry.Entry.{Entry}
-use Rattle.inst_set.specs.Sets.{all_insts, has, without_inst}
-use Rattle.wire_net.specs.Entry.{grant_of, with_grant}
-use Rattle.resource_dir.specs.Holders.{is_number, sharer_under, unshared, unwaited, under_other, taken_out}
-use Rattle.block_protocol.specs.Block.{Shared, Exclusive, Hold, Idle, Clears, Block, unless_grant, without, Grants as GrantsTo, Operation as ProtocolOperation, Want}
-use Rattle.block_protocol.specs.Sound.{Listing, IsListing, OnlyShared, OperationFits, Sound}
+use Rattle.inst_set.specs.Sets.{all_insts}
+use Rattle.wire_net.specs.Entry.{grant_of}
+use Rattle.resource_dir.specs.Holders.{is_number, sharer_under, unshared, unwaited, under_other}
+use Rattle.block_protocol.specs.Block.{Shared, Exclusive, Idle, Clears, Block, unless_grant, without, Grants as GrantsTo, Operation as ProtocolOperation, Want}
+use Rattle.block_protocol.specs.Sound.{Listing, IsListing, OnlyShared, Sound}
 use Rattle.block_protocol.proofs.Basics.{none-some}
 use Rattle.block_protocol.proofs.Keep.{Sound-at}
 use Rattle.protocol_ties.specs.Messages.{instances}
-use Rattle.protocol_ties.specs.Entries.{shared_hold, listed_beside, listing_of, IsAwaited, IsClearing, IsGranting, IsOperation, Tied}
+use Rattle.protocol_ties.specs.Entries.{shared_hold, listed_beside, listing_of, IsAwaited, IsClearing, IsOperation, Tied}
 use Rattle.protocol_ties.proofs.Tables.{grant-none, table-sized, past-none, each-of, find-none, find-some, has-without, is-number, not-number}
 
 -- a hold of another grant stays

@@ -1,5 +1,5 @@
 -- A message goes on to the master.
-use Rattle.std.proofs.Common.{◌≡◌, ◌≢◌, ◌∙◌, ℕ, ◌+◌, ◌<◌, ◌≤◌, Bool, true, false, List, [], ◌∷◌, ◌++◌, refl, sym, ap, subst, arith}
+use Rattle.std.proofs.Common.{◌≡◌, ◌∙◌, ℕ, ◌<◌, List, [], ◌∷◌, ◌++◌, refl, sym, ap, subst, arith}
 use Rattle.std.specs.Prelude.{map, max, option_map, option_to_list, Option, Some, None}
 use Rattle.std.specs.List.{AllByRecursion}
 use Rattle.wire_net.specs.declared.message.Mode.{Mode as HoldMode}
@@ -10,7 +10,7 @@ use Rattle.wire_net.specs.declared.message.Message.TheVariants as messages
 use Rattle.wire_net.specs.declared.entry.Operation.{Operation}
 use Rattle.wire_net.specs.declared.entry.Entry.{Entry}
 use Prim.Native.Nat.{zero, suc}
-use Rattle.block_protocol.specs.Block.{Inst, Shared, Exclusive, Hold, Want, Request, Quiet, Asks, BackCopy, BackShip, Idle, Clears, Grants, Note, Gone, GaveUp, BackWrite, Block, put, Takes, Operation as ProtocolOperation}
+use Rattle.block_protocol.specs.Block.{Shared, Exclusive, Hold, Want, Request, Quiet, Asks, BackCopy, BackShip, Grants, Note, Gone, GaveUp, BackWrite, Block, put, Takes}
 use Rattle.block_protocol.specs.Steps.{sent_on, asked_on, forwards_request, forwards_note, forwards_ship}
 use Rattle.block_protocol.specs.Wire.{Wire, Ask, BackCopyWire, BackShipWire, GoneWire, GaveUpWire, BackWriteWire, DoneWire, WroteWire, PleaseWire, of_operation, of_request, of_waiting, gather, of_note, of_memo, flights, Same, more}
 use Rattle.block_protocol.proofs.Basics.{put-same, put-other, put-elim}
@@ -18,8 +18,8 @@ use Rattle.block_protocol.proofs.Bags.{Takes-left, Takes-right}
 use Rattle.block_protocol.specs.Block.{here}
 use Rattle.block_protocol.proofs.RefinesAsk.{gather-taken, gather-none}
 use Rattle.protocol_ties.specs.Messages.{instances, want_of, wire_of, back_of, wires_of, asks_of, pleas_of}
-use Rattle.protocol_ties.specs.Entries.{IsOperation, IsProper, Tied, Shows}
-use Rattle.protocol_ties.specs.MasterRuns.{MasterRun, stays, goes, LeavesRest, raised}
+use Rattle.protocol_ties.specs.Entries.{IsOperation, IsProper}
+use Rattle.protocol_ties.specs.MasterRuns.{stays, goes, raised}
 use Rattle.protocol_ties.specs.Takes.{IsForMaster}
 use Rattle.protocol_ties.specs.GoesOn.{IsPassedOn, MessageGoesOn}
 use Rattle.protocol_ties.proofs.Goes.{TiedTo}

@@ -1,25 +1,23 @@
 -- A master hears of past images and writes, and of pleas for writes.
-use Rattle.std.proofs.Common.{◌≡◌, ◌∙◌, ℕ, ◌+◌, ◌<◌, ◌≤◌, Bool, true, false, cond, List, [], ◌∷◌, ◌++◌, refl, sym, ap, subst, arith}
+use Rattle.std.proofs.Common.{◌≡◌, ◌∙◌, ℕ, ◌≤◌, Bool, true, false, cond, List, [], ◌∷◌, ◌++◌, refl, sym, ap, arith}
 use Rattle.std.specs.Prelude.{map, flat_map, max, Option, Some, None, nat_le}
 use Rattle.std.proofs.lemmas.Bool.{eq-eqb, leb-true}
-use Rattle.wire_net.specs.declared.message.Message.{Message}
 use Rattle.wire_net.specs.declared.message.Message.TheVariants as messages
-use Rattle.wire_net.specs.declared.entry.Grants.{Grants as GrantTable}
 use Rattle.wire_net.specs.declared.entry.Holder.{Holder}
 use Rattle.wire_net.specs.declared.entry.PastVersions.{PastVersions}
 use Rattle.wire_net.specs.declared.entry.Entry.{Entry}
 use Rattle.inst_set.specs.Sets.{all_insts}
 use Rattle.wire_net.specs.Entry.{grant_of, version_of, versions_above}
-use Rattle.resource_dir.specs.Taken.{Taken, silent, telling, and_then}
-use Rattle.resource_dir.specs.Pasts.{drops_to, drops, wrote, plead, answer_plea}
-use Rattle.block_protocol.specs.Block.{Inst, Shared, Exclusive, Hold, Want, Idle, Note, WritePlease, Memo, Please, Wrote, DropPast, Block, Takes, here}
-use Rattle.block_protocol.specs.Sound.{OnlyShared, Sound}
-use Rattle.block_protocol.specs.Steps.{Step, clock_there, hears_written, hears_plea, passes_plea, lets_drop, asks_to_write}
+use Rattle.resource_dir.specs.Taken.{Taken, telling}
+use Rattle.resource_dir.specs.Pasts.{drops_to, wrote, plead, answer_plea}
+use Rattle.block_protocol.specs.Block.{Want, Idle, WritePlease, Memo, Please, Wrote, DropPast, Block, Takes, here}
+use Rattle.block_protocol.specs.Sound.{OnlyShared}
+use Rattle.block_protocol.specs.Steps.{Step, clock_there, hears_written, hears_plea, passes_plea, asks_to_write}
 use Rattle.block_protocol.specs.Wire.{Wire, PleaseWire, WroteWire, DropPastWire, WritePleaseWire, of_operation, of_request, of_waiting, gather, of_note, of_memo, flights, Same, more}
-use Rattle.block_protocol.proofs.Bags.{Takes-right, Takes-left}
+use Rattle.block_protocol.proofs.Bags.{Takes-right}
 use Rattle.protocol_ties.specs.Messages.{instances, wires_of}
-use Rattle.protocol_ties.specs.Entries.{shared_hold, listed_beside, listing_of, Tied}
-use Rattle.protocol_ties.specs.MasterRuns.{IsMasters, MasterRun, stays, goes}
+use Rattle.protocol_ties.specs.Entries.{listed_beside}
+use Rattle.protocol_ties.specs.MasterRuns.{IsMasters, stays, goes}
 use Rattle.protocol_ties.specs.Takes.{HasRoom}
 use Rattle.protocol_ties.proofs.Goes.{TiedTo, Goes, goes-then, goes-before, nothing-done}
 use Rattle.protocol_ties.proofs.Serves.{hold-grant}

@@ -1,6 +1,6 @@
 -- The whole: each message, and what waited.
-use Rattle.std.proofs.Common.{◌≡◌, ◌∙◌, ℕ, ◌+◌, ◌<◌, ◌≤◌, Bool, true, false, cond, List, [], ◌∷◌, ◌++◌, refl, sym, ap, subst, arith}
-use Rattle.std.specs.Prelude.{max, option_map, Option, Some, None, length, nat_le}
+use Rattle.std.proofs.Common.{◌≡◌, ◌∙◌, ℕ, ◌≤◌, Bool, true, false, List, ◌∷◌, ◌++◌, refl, sym, ap, subst, arith}
+use Rattle.std.specs.Prelude.{max, option_map, Option, Some, None, nat_le}
 use Rattle.std.specs.List.{AllByRecursion}
 use Rattle.wire_net.specs.declared.message.Mode.{Mode as HoldMode}
 use Rattle.wire_net.specs.declared.message.Mode.TheVariants as modes
@@ -13,23 +13,23 @@ use Rattle.wire_net.specs.declared.entry.Operation.{Operation}
 use Rattle.wire_net.specs.declared.entry.Entry.{Entry}
 use Rattle.wire_net.specs.Entry.{version_of}
 use Rattle.resource_dir.specs.Holders.{is_granting, is_number}
-use Rattle.resource_dir.specs.Taken.{Taken, silent, and_then}
+use Rattle.resource_dir.specs.Taken.{Taken}
 use Rattle.resource_dir.specs.Asks.{ask}
 use Rattle.resource_dir.specs.Pasts.{is_newer, wrote, keep, keep_any, keep_any_newer}
 use Rattle.resource_dir.specs.Ends.{gone, gave_up, ended, entered, done, done_as, done_if, hear_back}
-use Rattle.resource_dir.specs.Takes.{react, hear_plea, drain_all, drain, takes}
-use Rattle.block_protocol.specs.Block.{Inst, Shared, Exclusive, Want, Asks, Waits, At, Block, put, place_clock}
+use Rattle.resource_dir.specs.Takes.{react, drain, takes}
+use Rattle.block_protocol.specs.Block.{Shared, Exclusive, Want, Asks, Waits, Block, put, place_clock}
 use Rattle.block_protocol.specs.Sound.{Sound}
-use Rattle.block_protocol.specs.Steps.{Step, clock_there, arrives, raises}
+use Rattle.block_protocol.specs.Steps.{clock_there, arrives, raises}
 use Rattle.block_protocol.specs.Wire.{Wire, Ask, GoneWire, DoneWire, GaveUpWire, WroteWire, PleaseWire, of_waiting, gather, flights, Same, more}
 use Rattle.block_protocol.proofs.Basics.{put-same}
 use Rattle.block_protocol.proofs.Directory.{Sound-step}
 use Rattle.block_protocol.proofs.RefinesAsk.{gather-comes}
 use Rattle.protocol_ties.specs.Messages.{instances, want_of, wire_of, back_of, wires_of, asks_of, pleas_of}
-use Rattle.protocol_ties.specs.Entries.{IsProper, Tied, Shows}
-use Rattle.protocol_ties.specs.MasterRuns.{MasterRun, stays, goes, LeavesRest, raised}
-use Rattle.protocol_ties.specs.Takes.{IsOfMade, IsForMaster, HasRoom, IsRun, MayTake, MessageIsARun}
-use Rattle.protocol_ties.proofs.Goes.{TiedTo, Goes, goes-before, sound-after}
+use Rattle.protocol_ties.specs.Entries.{IsProper}
+use Rattle.protocol_ties.specs.MasterRuns.{stays, goes, raised}
+use Rattle.protocol_ties.specs.Takes.{IsOfMade, IsForMaster, HasRoom, IsRun, MessageIsARun}
+use Rattle.protocol_ties.proofs.Goes.{TiedTo, goes-before, sound-after}
 use Rattle.protocol_ties.proofs.Hears.{goes-gone, goes-gave_up, goes-done}
 use Rattle.protocol_ties.proofs.Pleas.{goes-wrote}
 use Rattle.protocol_ties.proofs.Drains.{Reacts, reacts-then, reacts-by, bag-next, asked, pleaded, drained}

@@ -1,31 +1,27 @@
 -- The entry that is made of the reports.
 use Rattle.std.proofs.Common.{◌≡◌, ◌≢◌, ◌∙◌, ℕ, ◌+◌, ◌-◌, ◌^◌, ◌<◌, ◌≤◌, Bool, true, false, cond, List, [], ◌∷◌, ◌++◌, refl, sym, ap, subst, arith, eqb, inl, inr, length}
-use Rattle.std.specs.Prelude.{Option, Some, None, fold, map, slice_index_or, slice_get, slice_index}
-use Rattle.std.proofs.lemmas.Bool.{eq-eqb, ne_eqb, eqb-true, cases_eq, cases_lt}
-use Rattle.std.proofs.lemmas.List.{get_or_past}
+use Rattle.std.specs.Prelude.{Option, Some, None, fold}
+use Rattle.std.proofs.lemmas.Bool.{eq-eqb, ne_eqb, cases_eq, cases_lt}
 use Rattle.std.specs.List.{AllByRecursion}
 use Prim.Native.Nat.{zero, suc}
 use Rattle.wire_net.specs.declared.message.Mode.{Mode as HoldMode}
 use Rattle.wire_net.specs.declared.message.Mode.TheVariants as modes
 use Rattle.wire_net.specs.declared.report.Frame.{Frame}
 use Rattle.wire_net.specs.declared.report.Report.{Report}
-use Rattle.wire_net.specs.declared.entry.Grants.{Grants as GrantTable}
 use Rattle.wire_net.specs.declared.entry.Holder.{Holder}
-use Rattle.wire_net.specs.declared.entry.Operation.{Operation}
-use Rattle.wire_net.specs.declared.message.Waiting.{Waiting}
 use Rattle.wire_net.specs.declared.entry.Entry.{Entry}
 use Rattle.wire_net.specs.Entry.{grant_of as table_grant, with_grant, empty_entry}
 use Rattle.resource_dir.specs.Holders.{grant_after}
-use Rattle.resource_dir.specs.Rebuilt.{held, kept, with_frame, with_report, rebuilt}
-use Rattle.block_protocol.specs.Block.{Shared, Exclusive, Hold, Idle, Block}
-use Rattle.block_protocol.specs.Turns.{regranted, numbered, AreGrants, thawed}
+use Rattle.resource_dir.specs.Rebuilt.{held, kept, with_frame, with_report}
+use Rattle.block_protocol.specs.Block.{Shared, Exclusive, Hold, Idle}
+use Rattle.block_protocol.specs.Turns.{regranted, numbered}
 use Rattle.block_protocol.specs.Made.{one_if, grant_of}
-use Rattle.block_protocol.specs.Wire.{Wire, flights, Same, none}
+use Rattle.block_protocol.specs.Wire.{Same, none}
 use Rattle.block_protocol.proofs.Basics.{none-some}
 use Rattle.block_protocol.proofs.Made.{are-grants}
 use Rattle.protocol_ties.specs.Messages.{instances, asks_of, pleas_of}
-use Rattle.protocol_ties.specs.Entries.{shared_hold, listed_beside, listing_of, IsOperation, IsProper, Tied, Shows}
-use Rattle.protocol_ties.specs.Reports.{mode_told, modes_told, IsModeOf, Tells, AreReportsFrom, AreReports, IsExclusiveAlone, IsThawedEntry, ReportsMakeTheEntry}
+use Rattle.protocol_ties.specs.Entries.{shared_hold, listed_beside, listing_of, IsOperation, IsProper}
+use Rattle.protocol_ties.specs.Reports.{modes_told, IsModeOf, Tells, AreReportsFrom, IsExclusiveAlone, ReportsMakeTheEntry, NewBlockIsShown}
 use Rattle.protocol_ties.proofs.Tables.{grant-same, grant-other, table-sized}
 use Rattle.protocol_ties.proofs.Hears.{nobody-shares}
 use Rattle.protocol_ties.proofs.Goes.{next-grant}
@@ -256,3 +252,11 @@ reports-make-the-entry b reports block bound told only =
         proper = subst (λ q. AllByRecursion IsProper q) (sym built.idle.1) tt;
       };
     }
+
+pub new-block-is-shown : NewBlockIsShown
+new-block-is-shown master = record {
+  tied = record { lists = λ i. sym (ap shared_hold (nobody-shares i)); alone = λ h e. absurd (none-some None h refl e); sized = refl; draws = refl; operation = tt; known = omega arith };
+  messages = none;
+  requests = none;
+  proper = tt;
+}

@@ -1,36 +1,35 @@
 -- An asker is served.
-use Rattle.std.proofs.Common.{◌≡◌, ◌≢◌, ◌∙◌, ℕ, ◌+◌, ◌<◌, ◌≤◌, ◌&&◌, Bool, true, false, cond, not, List, [], ◌∷◌, ◌++◌, refl, sym, ap, subst, arith, eqb, inl, inr, length}
-use Rattle.std.specs.Prelude.{map, flat_map, Option, Some, None, is_some, unwrap_or, find}
-use Rattle.std.specs.List.{AllByRecursion, list_any}
-use Rattle.std.proofs.lemmas.Bool.{eq-eqb, ne_eqb, cases_eq, cases_lt, eqb-true, eqb-false, and_parts, and_cases}
+use Rattle.std.proofs.Common.{◌≡◌, ◌≢◌, ◌∙◌, ℕ, ◌+◌, ◌<◌, ◌&&◌, Bool, true, false, cond, not, List, [], ◌∷◌, ◌++◌, refl, sym, ap, subst, arith, eqb, inl, inr}
+use Rattle.std.specs.Prelude.{map, flat_map, Option, Some, None, is_some, unwrap_or}
+use Rattle.std.specs.List.{AllByRecursion}
+use Rattle.std.proofs.lemmas.Bool.{eq-eqb, ne_eqb, cases_lt, eqb-true, eqb-false, and_parts}
 use Rattle.wire_net.specs.declared.message.Mode.{Mode as HoldMode}
 use Rattle.wire_net.specs.declared.message.Mode.TheVariants as modes
 use Rattle.wire_net.specs.declared.message.Message.{Message}
 use Rattle.wire_net.specs.declared.message.Message.TheVariants as messages
 use Rattle.wire_net.specs.declared.entry.Grants.{Grants as GrantTable}
 use Rattle.wire_net.specs.declared.entry.Holder.{Holder}
-use Rattle.wire_net.specs.declared.entry.Operation.{Operation}
 use Rattle.wire_net.specs.declared.entry.Entry.{Entry}
 use Rattle.inst_set.specs.Sets.{all_insts}
 use Rattle.wire_net.specs.Entry.{grant_of}
-use Rattle.resource_dir.specs.Holders.{other_than, first_sharer, has_other_sharer, is_other_sharer, is_sharer, other_sharers}
-use Rattle.resource_dir.specs.Taken.{Taken, silent, telling}
-use Rattle.resource_dir.specs.Asks.{granting, granted, shipped_from, shared_from, read_beside, invalidates_to, clearing, cleared, written_beside}
-use Rattle.block_protocol.specs.Block.{Inst, Mode, Shared, Exclusive, Hold, Want, Read, Write, Upgrade, mode_for, Quiet, Waits, CopyTo, ShipTo, Grant, Idle, Clears, Grants, Note, Invalidate, Block, put, count, bit}
+use Rattle.resource_dir.specs.Holders.{other_than, first_sharer, has_other_sharer, is_other_sharer, is_sharer}
+use Rattle.resource_dir.specs.Taken.{telling}
+use Rattle.resource_dir.specs.Asks.{granting, granted, shipped_from, shared_from, read_beside, invalidates_to, cleared, written_beside}
+use Rattle.block_protocol.specs.Block.{Mode, Shared, Exclusive, Hold, Want, Read, Write, Upgrade, mode_for, Quiet, Waits, CopyTo, ShipTo, Grant, Idle, Clears, Grants, Note, Invalidate, Block, put, count}
 use Rattle.block_protocol.specs.Sound.{Upgrades, OnlyShared, clears, Sound}
-use Rattle.block_protocol.specs.Steps.{Step, SteppedBack, IsInvalidate, is_none, clock_there, sends_copy, orders, gives_shared, begins_to_clear, gives}
+use Rattle.block_protocol.specs.Steps.{SteppedBack, IsInvalidate, is_none, clock_there, sends_copy, orders, gives_shared, begins_to_clear, gives}
 use Rattle.block_protocol.specs.Wire.{Wire, CopyToWire, ShipToWire, GrantWire, InvalidateWire, of_operation, of_request, of_waiting, gather, of_note, of_memo, flights, Same, more}
 use Rattle.block_protocol.proofs.Basics.{none-some, all-keep}
 use Rattle.block_protocol.proofs.Begins.{idle-listed}
 use Rattle.block_protocol.proofs.Bags.{Takes-left, Takes-right, same-move}
 use Rattle.block_protocol.proofs.RefinesAsk.{gather-taken, gather-comes, gather-none}
-use Rattle.protocol_ties.specs.Messages.{instances, want_of, hold_of, wires_of, wire_of}
-use Rattle.protocol_ties.specs.Entries.{shared_hold, listed_beside, listing_of, IsAwaited, IsClearing, IsOperation, Tied}
-use Rattle.protocol_ties.specs.MasterRuns.{MasterRun, stays, goes, LeavesRest}
+use Rattle.protocol_ties.specs.Messages.{instances, want_of, hold_of, wires_of}
+use Rattle.protocol_ties.specs.Entries.{shared_hold, listed_beside}
+use Rattle.protocol_ties.specs.MasterRuns.{MasterRun, stays, goes}
 use Rattle.protocol_ties.specs.Takes.{HasRoom}
 use Rattle.protocol_ties.proofs.Bag.{same-under, same-trans, left-by}
 use Rattle.protocol_ties.proofs.Tables.{past-none, each-of, find-none, find-some, any-none, has-others}
-use Rattle.protocol_ties.proofs.Goes.{TiedTo, Goes, begun, next-grant}
+use Rattle.protocol_ties.proofs.Goes.{TiedTo, Goes, begun}
 
 -- how a sharer is listed
 some-sharer : (o : Option ℕ) → is_some o ≡ true → o ≡ Some (unwrap_or o 0)

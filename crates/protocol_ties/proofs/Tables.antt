@@ -1,15 +1,15 @@
 -- The tables of an entry: of eight instances each.
-use Rattle.std.proofs.Common.{◌≡◌, ◌≢◌, ◌∙◌, ℕ, ◌<◌, ◌≤◌, ◌&&◌, Bool, true, false, cond, not, List, [], ◌∷◌, refl, sym, ap, subst, arith, eqb, inl, inr, ◌⊎◌, length, map}
+use Rattle.std.proofs.Common.{◌≡◌, ◌≢◌, ℕ, ◌<◌, ◌≤◌, ◌&&◌, Bool, true, false, cond, not, List, [], ◌∷◌, refl, sym, ap, subst, arith, eqb, inl, inr, length, map}
 use Rattle.std.specs.Prelude.{Option, Some, None, is_some, slice_index_or, slice_set, find}
 use Rattle.std.specs.List.{AllByRecursion, list_any, list_all}
-use Rattle.std.proofs.lemmas.Bool.{eq-eqb, ne_eqb, cases_eq, cases_lt, or_parts, eqb-true, eqb-false, and_parts}
+use Rattle.std.proofs.lemmas.Bool.{cases_lt, or_parts, eqb-true, eqb-false, and_parts}
 use Rattle.std.proofs.lemmas.List.{get_or_past, get_or-set_same, get_or-set_other, length-set}
 use Prim.Native.Nat.{zero, suc}
 use Rattle.wire_net.specs.declared.entry.Grants.{Grants}
 use Rattle.inst_set.specs.declared.set.InstSet.{InstSet}
 use Rattle.inst_set.specs.Sets.{all_insts, has, is_empty, without_inst}
 use Rattle.wire_net.specs.Entry.{grant_of, with_grant}
-use Rattle.resource_dir.specs.Holders.{is_number, is_sharer, is_other_sharer, other_sharers}
+use Rattle.resource_dir.specs.Holders.{is_number, is_other_sharer, other_sharers}
 use Rattle.protocol_ties.specs.Messages.{instances}
 
 -- what is taken out of a table, and what is put there

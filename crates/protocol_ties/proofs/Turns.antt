@@ -1,8 +1,8 @@
 -- A run of a master's steps is one of turns.
-use Rattle.std.proofs.Common.{◌≡◌, ◌≢◌, ◌∙◌, ℕ, ◌≤◌, Bool, true, refl, sym, ap, subst, arith, inl}
-use Rattle.std.specs.Prelude.{max, Option}
+use Rattle.std.proofs.Common.{◌≡◌, ◌≢◌, ◌∙◌, Bool, refl, sym, ap, subst, arith, inl}
+use Rattle.std.specs.Prelude.{max}
 use Rattle.block_protocol.specs.Block.{Inst, Scn, Block, put}
-use Rattle.block_protocol.specs.Steps.{Step, clock_there, asks, arrives, forwards_request, forwards_note, forwards_ship, steps_back, sends_copy, orders, gives_shared, begins_to_clear, gives, invalidates, was_gone, ships, ship_comes_back, serves_copy, copy_comes_back, asks_to_write, takes_wish, write_comes_back, takes_copy, installs_shipped, installs_from_disk, installs_held, evicts, ends, hears_gone, hears_back_write, hears_gave_up, ends_before_done, drops_stale, asks_copy_again, asks_ship_again, changes, writes, pleads, tells_written, hears_written, hears_plea, passes_plea, lets_drop, drops_past, forces, uses, uses_copy, drops_copy, raises, sends_entry, takes_entry}
+use Rattle.block_protocol.specs.Steps.{Step, asks, arrives, forwards_request, forwards_note, forwards_ship, steps_back, sends_copy, orders, gives_shared, begins_to_clear, gives, invalidates, was_gone, ships, ship_comes_back, serves_copy, copy_comes_back, asks_to_write, takes_wish, write_comes_back, takes_copy, installs_shipped, installs_from_disk, installs_held, evicts, ends, hears_gone, hears_back_write, hears_gave_up, ends_before_done, drops_stale, asks_copy_again, asks_ship_again, changes, writes, pleads, tells_written, hears_written, hears_plea, passes_plea, lets_drop, drops_past, forces, uses, uses_copy, drops_copy, raises, sends_entry, takes_entry}
 use Rattle.block_protocol.specs.Members.{Phase, Members, Cluster, RedoComes, Permits, IsAwake, actual_after, role_after}
 use Rattle.block_protocol.specs.Positions.{Firsts, firsts_after}
 use Rattle.block_protocol.specs.Turns.{IsEra, Turn, acts}

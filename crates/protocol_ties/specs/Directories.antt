@@ -1,5 +1,5 @@
 -- The entries of a whole directory: what a message changes, and what the moving of a bucket does.
-use Rattle.std.specs.Prelude.{ℕ, ◌≡◌, ◌≢◌, ◌<◌, ◌%◌, ◌==◌, if◌then◌else◌, List, [], length, Option, Some, None}
+use Rattle.std.specs.Prelude.{ℕ, ◌≡◌, ◌≢◌, ◌<◌, ◌%◌, List, [], length, Some, None}
 use Rattle.wire_net.specs.declared.message.Message.{Message}
 use Rattle.wire_net.specs.declared.entry.Entry.{Entry}
 use Rattle.resource_dir.specs.declared.directory.Directory.{Directory}

@@ -1,8 +1,6 @@
 -- The program's entry of a block, beside a state of the protocol.
-use Rattle.std.specs.Prelude.{ℕ, ◌≡◌, ◌≢◌, ◌≤◌, ◌<◌, ◌==◌, ◌++◌, ◌&&◌, not, Bool, if◌then◌else◌, List, length, is_some, Option, None, Some}
+use Rattle.std.specs.Prelude.{◌≡◌, ◌≤◌, ◌<◌, ◌==◌, ◌++◌, ◌&&◌, not, if◌then◌else◌, List, length, is_some, Option, None, Some}
 use Rattle.std.specs.List.{AllByRecursion}
-use Rattle.wire_net.specs.declared.message.Mode.{Mode}
-use Rattle.wire_net.specs.declared.message.Mode.TheVariants as modes
 use Rattle.wire_net.specs.declared.message.Waiting.{Waiting}
 use Rattle.wire_net.specs.declared.message.Waiting.TheVariants as waiting
 use Rattle.wire_net.specs.declared.entry.Holder.{Holder}
@@ -11,7 +9,7 @@ use Rattle.wire_net.specs.declared.entry.Operation.{Operation}
 use Rattle.wire_net.specs.declared.entry.Entry.{Entry}
 use Rattle.inst_set.specs.Sets.{has}
 use Rattle.wire_net.specs.Entry.{grant_of}
-use Rattle.block_protocol.specs.Block.{Inst, Scn, Version, GrantNo, Shared, Exclusive, Hold, Want, Idle, Clears, Grants as GrantsTo, Operation as ProtocolOperation, Block}
+use Rattle.block_protocol.specs.Block.{Inst, Version, GrantNo, Shared, Exclusive, Hold, Want, Idle, Clears, Grants as GrantsTo, Operation as ProtocolOperation, Block}
 use Rattle.block_protocol.specs.Sound.{Listing}
 use Rattle.block_protocol.specs.Wire.{Wire, of_waiting, gather, flights, Same}
 use Rattle.protocol_ties.specs.Messages.{instances, want_of, hold_of, asks_of, pleas_of}

@@ -8,3 +8,4 @@ pub mod Directories
 pub mod AmongAll
 pub mod Reports
 pub mod Bags
+pub mod Samples

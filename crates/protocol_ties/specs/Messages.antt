@@ -1,10 +1,9 @@
 -- The messages of the program, as those of the protocol of one block.
-use Rattle.std.specs.Prelude.{ℕ, Bool, true, false, if◌then◌else◌, List, [], ◌∷◌, flat_map, option_map, option_to_list, Option, None, Some}
+use Rattle.std.specs.Prelude.{ℕ, Bool, true, false, List, [], ◌∷◌, flat_map, option_map, option_to_list, Option, None, Some}
 use Rattle.wire_net.specs.declared.message.Mode.{Mode}
 use Rattle.wire_net.specs.declared.message.Mode.TheVariants as modes
 use Rattle.wire_net.specs.declared.message.Unfound.{Unfound}
 use Rattle.wire_net.specs.declared.message.Unfound.TheVariants as unfound
-use Rattle.wire_net.specs.declared.message.Shipment.{Shipment}
 use Rattle.wire_net.specs.declared.message.Waiting.{Waiting}
 use Rattle.wire_net.specs.declared.message.Waiting.TheVariants as waiting
 use Rattle.wire_net.specs.declared.message.Message.{Message}

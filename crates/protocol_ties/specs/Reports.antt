@@ -1,16 +1,17 @@
 -- The entry that is made of the reports, beside the one that the protocol's Thaw makes of the images.
-use Rattle.std.specs.Prelude.{ℕ, ◌+◌, ◌≡◌, ◌≢◌, ◌<◌, ◌≤◌, ◌%◌, ◌==◌, if◌then◌else◌, List, [], ◌∷◌, flat_map, Option, None, Some}
+use Rattle.std.specs.Prelude.{ℕ, ◌+◌, ◌≡◌, ◌<◌, ◌≤◌, ◌==◌, if◌then◌else◌, List, [], ◌∷◌, flat_map, Option, None, Some}
 use Rattle.wire_net.specs.declared.message.Mode.{Mode}
 use Rattle.wire_net.specs.declared.message.Mode.TheVariants as modes
 use Rattle.wire_net.specs.declared.report.Frame.{Frame}
 use Rattle.wire_net.specs.declared.report.Report.{Report}
 use Rattle.wire_net.specs.declared.masters.Masters.{Masters}
 use Rattle.wire_net.specs.declared.entry.Entry.{Entry}
+use Rattle.wire_net.specs.Entry.{empty_entry}
 use Rattle.wire_net.specs.Masters.{master_of}
-use Rattle.resource_dir.specs.declared.directory.Directory.{Directory}
 use Rattle.resource_dir.specs.Directory.{entry_of}
 use Rattle.resource_dir.specs.Rebuilt.{rebuilt, rebuilt_directory}
-use Rattle.block_protocol.specs.Block.{Inst, Scn, GrantNo, Shared, Exclusive, Hold, Block}
+use Rattle.block_protocol.specs.Block.{Inst, Scn, Shared, Exclusive, Hold, Block}
+use Rattle.block_protocol.specs.Runs.{start}
 use Rattle.block_protocol.specs.AllBlocks.{BlockNo}
 use Rattle.block_protocol.specs.Turns.{AreGrants, thawed}
 use Rattle.block_protocol.specs.Made.{grant_of}
@@ -64,6 +65,10 @@ pub record IsThawedEntry (entry : Entry) (block : Block) (bound : Scn) : Type 0 
 abbrev pub ReportsMakeTheEntry : Type 0
 ReportsMakeTheEntry = (block_no : BlockNo) (reports : List (ℕ × Report)) (block : Block) (bound : Scn) → AreReports block_no reports block.frame → IsExclusiveAlone block.frame
     → IsThawedEntry (rebuilt block_no reports) block bound
+
+-- a block that was never asked for is shown by the empty entry, with nothing under way
+abbrev pub NewBlockIsShown : Type 0
+NewBlockIsShown = (master : Inst) → Shows [] empty_entry (start master)
 
 -- each instance gets the entries of the blocks that it masters by the table, each made of the reports on its own block, and no
 -- others

@@ -1,6 +1,5 @@
 -- What the master of a block does with a message is a run of the protocol.
-use Rattle.std.specs.Prelude.{ℕ, ◌≡◌, ◌≤◌, ◌<◌, ◌-◌, ◌^◌, ◌++◌, List, ◌∷◌, length, Option, None, Some}
-use Rattle.wire_net.specs.declared.message.Unfound.{Unfound}
+use Rattle.std.specs.Prelude.{◌≡◌, ◌≤◌, ◌<◌, ◌-◌, ◌^◌, ◌++◌, List, ◌∷◌, length, None, Some}
 use Rattle.wire_net.specs.declared.message.Unfound.TheVariants as unfound
 use Rattle.wire_net.specs.declared.message.Message.{Message}
 use Rattle.wire_net.specs.declared.message.Message.TheVariants as messages

@@ -4,7 +4,7 @@ ghost use Rattle.protocol_ties.specs.Bags.{NothingIsBorne, SentComesIn, TakenHas
 ghost use Rattle.protocol_ties.specs.Directories.{BucketsMoveWhole, DirectoryDrops, DirectoryTakesAtOne, EntryComes, EntryLeaves, EntryStaysShown};
 ghost use Rattle.protocol_ties.specs.GoesOn.{MessageGoesOn};
 ghost use Rattle.protocol_ties.specs.MasterTurns.{MasterRunsAreTurns, MasterRunsAreTurnsOfAll};
-ghost use Rattle.protocol_ties.specs.Reports.{DirectoryIsMadeByEntries, ReportsMakeTheEntry};
+ghost use Rattle.protocol_ties.specs.Reports.{DirectoryIsMadeByEntries, NewBlockIsShown, ReportsMakeTheEntry};
 
 /// What a master does with a message, as the directory's crate has it, is a run of the protocol of one block: the entry
 /// that it comes to and what it sends are those of the state that the run leads to.
@@ -48,9 +48,10 @@ pub fn a_message_is_taken_among_all_blocks()
 {}
 
 /// The entry that is made of the reports after a change of membership is the one of the protocol's Thaw: it lists each
-/// image under its new grant.
+/// image under its new grant. Before that, the empty entry is the one of a new block.
 pub fn the_reports_make_the_entry()
-    ensures { ReportsMakeTheEntry }
+    ensures thaw { ReportsMakeTheEntry }
+    ensures new { NewBlockIsShown }
 {}
 
 /// A directory that is made of the reports has the entry of each block that its instance masters, made of what the reports
