@@ -1,8 +1,11 @@
 -- What a master does with a message, among all blocks.
-use Rattle.std.proofs.Common.{◌≡◌, ◌∙◌, ◌++◌, sym, ap, subst}
+use Rattle.std.proofs.Common.{◌≡◌, ◌∙◌, ◌++◌, sym, ap, subst, arith, max}
 use Rattle.std.specs.Prelude.{Some}
 use Rattle.resource_dir.specs.Takes.{takes}
-use Rattle.block_protocol.specs.Steps.{clock_there}
+use Rattle.block_protocol.specs.Sound.{Sound}
+use Rattle.block_protocol.specs.Steps.{clock_there, raises}
+use Rattle.block_protocol.proofs.Directory.{Sound-step}
+use Rattle.protocol_ties.proofs.Goes.{sound-after}
 use Rattle.block_protocol.specs.AllBlocks.{view}
 use Rattle.block_protocol.proofs.Basics.{all-keep}
 use Rattle.protocol_ties.specs.Messages.{wires_of, block_of_waiting}
@@ -18,13 +21,14 @@ use Rattle.protocol_ties.proofs.About.{about-takes, wires-here, wires-there}
 pub message-is-taken-among-all : MessageIsTakenAmongAll
 message-is-taken-among-all whole directory me scn b message wires entry era among room =
     let k = message-is-a-run me scn message wires entry (view whole b).block among.may room in
+    let start : Sound (raised me scn (view whole b).block) = Sound-step (raises (view whole b).block me (max ((view whole b).block.clock me) scn) (omega arith)) among.may.sound in
     let d = directory-takes-at-one directory b message entry among.sized among.masters in
     let about = about-takes message (Some b) entry among.about (all-keep (λ w. block_of_waiting w ≡ b) (λ w. Some (block_of_waiting w) ≡ Some b) entry.queue (λ w e. ap (λ n. Some n) e) among.waits) in
     let sent : wires_about b (clock_there (raised me scn (view whole b).block)) (takes entry message).sends ≡ wires_of (clock_there (raised me scn (view whole b).block)) (takes entry message).sends = wires-here b (clock_there (raised me scn (view whole b).block)) (takes entry message).sends about.0 in
     record {
       after = k.after;
       later = (takes entry message).entry;
-      leads = (master-runs-are-turns-of-all whole me scn b k.after era k.run, k.beside);
+      leads = (master-runs-are-turns-of-all whole me scn b k.after era k.run, k.beside, sound-after k.run start);
       here = (d.here, all-keep (λ w. Some (block_of_waiting w) ≡ Some b) (λ w. block_of_waiting w ≡ b) (takes entry message).entry.queue (λ w e. some-one (block_of_waiting w) b e) about.1);
       shows = subst (λ s. Shows (wires_about b (clock_there (raised me scn (view whole b).block)) s ++ wires) (takes entry message).entry k.after) (sym d.sends)
           (subst (λ l. Shows (l ++ wires) (takes entry message).entry k.after) (sym sent) k.shows);

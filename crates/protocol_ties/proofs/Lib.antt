@@ -19,3 +19,4 @@ pub mod Reports
 pub mod Made
 pub mod Links
 pub mod SampleStates
+pub mod OnLinks

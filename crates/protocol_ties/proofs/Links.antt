@@ -17,7 +17,7 @@ use Rattle.protocol_ties.specs.Bags.{receiver_at, wires_in, bag_from, bag_of, Se
 use Rattle.protocol_ties.proofs.Bag.{same-trans, same-under}
 use Rattle.protocol_ties.proofs.Drains.{append-none}
 
-same-over : {A : Type 0} (xs ys zs : List A) → Same xs ys → Same (xs ++ zs) (ys ++ zs)
+pub same-over : {A : Type 0} (xs ys zs : List A) → Same xs ys → Same (xs ++ zs) (ys ++ zs)
 same-over xs ys zs none = same-refl zs
 same-over xs ys zs (more x us vs ws t s) = more x (us ++ zs) (ys ++ zs) (ws ++ zs) (Takes-left x ys ws zs t) (same-over us ws zs s)
 

@@ -6,6 +6,7 @@ use Rattle.wire_net.specs.declared.entry.Entry.{Entry}
 use Rattle.resource_dir.specs.declared.directory.Directory.{Directory}
 use Rattle.resource_dir.specs.Directory.{entry_of, directory_takes}
 use Rattle.block_protocol.specs.Block.{Inst, Scn, Block}
+use Rattle.block_protocol.specs.Sound.{Sound}
 use Rattle.block_protocol.specs.Steps.{clock_there}
 use Rattle.block_protocol.specs.Wire.{Wire}
 use Rattle.block_protocol.specs.Turns.{IsEra}
@@ -47,7 +48,7 @@ pub record MayTakeAmong (whole : AllBlocks) (directory : Directory) (me : Inst) 
 pub record IsTakenAmong (whole : AllBlocks) (directory : Directory) (me : Inst) (scn : Scn) (block_no : BlockNo) (message : Message) (wires : List Wire) : Type 0 where
   pub after : Block
   pub later : Entry
-  pub leads : LeadsTo whole (all_raised me scn whole) block_no after × LeavesRest (raised me scn (view whole block_no).block) after
+  pub leads : LeadsTo whole (all_raised me scn whole) block_no after × LeavesRest (raised me scn (view whole block_no).block) after × Sound after
   pub here : (entry_of (directory_takes directory block_no message).directory block_no ≡ Some later) × WaitsAbout block_no later
   pub shows : Shows (wires_about block_no (clock_there (raised me scn (view whole block_no).block)) (directory_takes directory block_no message).sends ++ wires) later after
   pub others : (other : BlockNo) → other ≢ block_no

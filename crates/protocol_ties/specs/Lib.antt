@@ -9,3 +9,4 @@ pub mod AmongAll
 pub mod Reports
 pub mod Bags
 pub mod Samples
+pub mod OnLinks

@@ -4,6 +4,7 @@ ghost use Rattle.protocol_ties.specs.Bags.{NothingIsBorne, SentComesIn, TakenHas
 ghost use Rattle.protocol_ties.specs.Directories.{BucketsMoveWhole, DirectoryDrops, DirectoryTakesAtOne, EntryComes, EntryLeaves, EntryStaysShown};
 ghost use Rattle.protocol_ties.specs.GoesOn.{MessageGoesOn};
 ghost use Rattle.protocol_ties.specs.MasterTurns.{MasterRunsAreTurns, MasterRunsAreTurnsOfAll};
+ghost use Rattle.protocol_ties.specs.OnLinks.{MasterTakesFromLinks};
 ghost use Rattle.protocol_ties.specs.Reports.{DirectoryIsMadeByEntries, NewBlockIsShown, ReportsMakeTheEntry};
 
 /// What a master does with a message, as the directory's crate has it, is a run of the protocol of one block: the entry
@@ -66,4 +67,10 @@ pub fn the_links_bear_the_bag()
     ensures sent { SentComesIn }
     ensures taken { TakenHasGone }
     ensures empty { NothingIsBorne }
+{}
+
+/// All of that together: a master takes the first packet of a link, and sends what its handler tells it to. That its
+/// directory and the links show the block's state holds again afterwards, all blocks having gone on by a run.
+pub fn a_master_takes_from_the_links()
+    ensures { MasterTakesFromLinks }
 {}
