@@ -13,12 +13,13 @@ use Rattle.block_protocol.specs.Wire.{Ask, DoneWire, BackShipWire, GaveUpWire, P
 use Rattle.block_protocol.proofs.Basics.{none-some, put-other, put-elim}
 use Rattle.block_protocol.proofs.Directory.{Sound-run, Sound-start, one-seat}
 use Rattle.block_protocol.specs.ClusterRuns.{first}
-use Rattle.block_protocol.specs.AllBlocks.{AllBlocks, first_of_all, RunOfAll, all_go, all_end, one_acts}
+use Rattle.block_protocol.specs.AllBlocks.{AllBlocks, view, first_of_all, RunOfAll, all_go, all_end, one_acts}
 use Rattle.resource_dir.specs.Rebuilt.{rebuilt, rebuilt_directory}
 use Rattle.protocol_ties.specs.Entries.{shared_hold, listed_beside}
 use Rattle.protocol_ties.specs.AmongAll.{MayTakeAmong}
 use Rattle.protocol_ties.specs.Reports.{AreReports, IsExclusiveAlone}
-use Rattle.protocol_ties.specs.Samples.{IsSample, shared_and_wanted, alone_and_ordered, alone, reports, all_to_one}
+use Rattle.protocol_ties.specs.Samples.{IsSample, shared_and_wanted, alone_and_ordered, alone, reports, all_to_one, asking, one_asks}
+use Rattle.protocol_ties.specs.OnLinks.{IsMastered, IsFirst}
 use Rattle.protocol_ties.proofs.Hears.{nobody-shares}
 
 pub first-ask : IsSample (messages.Ask 5 modes.Shared modes.Null 1) empty_entry ((1, messages.Grant 5 1 modes.Shared true) ∷ [])
@@ -204,4 +205,14 @@ among-all = (
   asked-for,
   all_go (one_acts (first_of_all 3 (λ b. 0)) 5 (record (start 0) { request = put (start 0).request 1 (Asks Read 0) }) (λ inst. 0) (asks (start 0) 1 Read refl tt refl) tt (record { rises = λ t. omega arith; drawn = λ t l c. inl refl }) tt tt) (all_end asked-for),
   record { sized = refl; masters = refl; about = refl; waits = tt; may = first-ask.may },
+)
+
+pub on-links : (whole : AllBlocks) × RunOfAll (first_of_all 3 (λ block_no. 0)) whole × IsMastered 0 (rebuilt_directory 0 all_to_one []) one_asks 5 empty_entry (view whole 5).block
+    × IsFirst 0 1 one_asks asking 5 (view whole 5).block
+unfolding asked-for first-ask among-all
+on-links = (
+  among-all.0,
+  among-all.1,
+  record { sized = (refl, refl); masters = refl; waits = tt; place = refl; sound = first-ask.may.sound; shows = first-ask.may.shows },
+  record { instances = (omega arith, omega arith); first = refl; about = refl; for_master = (tt, tt); wire = Ask 1 Read 0; is = refl },
 )

@@ -3,6 +3,9 @@ use Rattle.std.specs.Prelude.{ℕ, ◌≡◌, false, List, [], ◌∷◌, replic
 use Rattle.wire_net.specs.declared.message.Mode.TheVariants as modes
 use Rattle.wire_net.specs.declared.message.Waiting.TheVariants as waiting
 use Rattle.wire_net.specs.declared.message.Message.{Message}
+use Rattle.wire_net.specs.declared.message.Message.TheVariants as messages
+use Rattle.wire_net.specs.declared.message.Packet.{Packet}
+use Rattle.wire_net.specs.Links.{no_packets, sent}
 use Rattle.wire_net.specs.declared.report.Report.{Report}
 use Rattle.wire_net.specs.declared.masters.Masters.{Masters}
 use Rattle.wire_net.specs.declared.entry.Entry.{Entry}
@@ -52,3 +55,11 @@ reports = (0, record { scn = 0; known = 0; frames = [] })
 -- instance 0 masters every bucket
 abbrev pub all_to_one : Masters
 all_to_one = record { by_bucket = replicate 16 0 }
+
+-- the first Ask of instance 1, on its way to the master
+abbrev pub asking : Packet
+asking = record { scn = 0; message = messages.Ask 5 modes.Shared modes.Null 1 }
+
+-- it alone waits on the links
+abbrev pub one_asks : List (List Packet)
+one_asks = sent no_packets 1 0 asking

@@ -6,10 +6,11 @@ ghost use Rattle.wire_net.specs.Entry.{empty_entry};
 ghost use Rattle.resource_dir.specs.Rebuilt.{rebuilt, rebuilt_directory};
 ghost use Rattle.block_protocol.specs.Block.{Block};
 ghost use Rattle.block_protocol.specs.Runs.{start, Run};
-ghost use Rattle.block_protocol.specs.AllBlocks.{AllBlocks, first_of_all, RunOfAll};
+ghost use Rattle.block_protocol.specs.AllBlocks.{AllBlocks, first_of_all, RunOfAll, view};
+ghost use Rattle.protocol_ties.specs.OnLinks.{IsFirst, IsMastered};
 ghost use Rattle.protocol_ties.specs.AmongAll.{MayTakeAmong};
 ghost use Rattle.protocol_ties.specs.Reports.{AreReports, IsExclusiveAlone};
-ghost use Rattle.protocol_ties.specs.Samples.{IsSample, all_to_one, alone, alone_and_ordered, reports, shared_and_wanted};
+ghost use Rattle.protocol_ties.specs.Samples.{IsSample, all_to_one, alone, alone_and_ordered, asking, one_asks, reports, shared_and_wanted};
 
 /// States that show that the laws speak of something.
 ///
@@ -20,7 +21,8 @@ ghost use Rattle.protocol_ties.specs.Samples.{IsSample, all_to_one, alone, alone
 ///   back before the GaveUp, and its asker gets the disk's image.
 /// - `plea`: instance 1 has the block alone and has changed it; a plea that version 1 be written is passed to it.
 /// - `reported`: of the reports the entry is made again, with instance 1 alone, by a new grant.
-/// - `among_all`: the directory that masters every block takes the first Ask.
+/// - `among_all`: the directory that masters every block may take the first Ask.
+/// - `on_links`: that Ask is the first packet on the link from instance 1 to the master, and the only one.
 pub fn sample_states()
     ensures first_ask { IsSample (messages.Ask 5 modes.Shared modes.Null 1) empty_entry ((1, messages.Grant 5 1 modes.Shared true) ∷ []) }
     ensures next_in_line { IsSample (messages.Done 5 1 modes.Shared None) shared_and_wanted ((1, messages.Invalidate 5 1) ∷ []) }
@@ -30,4 +32,6 @@ pub fn sample_states()
         (rebuilt 5 reports ≡ alone) }
     ensures among_all { (whole : AllBlocks) × RunOfAll (first_of_all 3 (λ block_no. 0)) whole ×
         MayTakeAmong whole (rebuilt_directory 0 all_to_one []) 0 0 5 (messages.Ask 5 modes.Shared modes.Null 1) [] empty_entry }
+    ensures on_links { (whole : AllBlocks) × RunOfAll (first_of_all 3 (λ block_no. 0)) whole × IsMastered 0 (rebuilt_directory 0 all_to_one []) one_asks 5 empty_entry (view whole 5).block ×
+        IsFirst 0 1 one_asks asking 5 (view whole 5).block }
 {}
