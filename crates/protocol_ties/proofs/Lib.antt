@@ -20,3 +20,4 @@ pub mod Made
 pub mod Links
 pub mod SampleStates
 pub mod OnLinks
+pub mod Numbered

@@ -18,7 +18,11 @@ use Rattle.protocol_ties.specs.Entries.{Shows}
 use Rattle.protocol_ties.specs.Takes.{MayTake}
 use Rattle.protocol_ties.specs.AmongAll.{is_block, wires_at, wires_about}
 use Rattle.protocol_ties.specs.Bags.{bag_of}
-use Rattle.protocol_ties.specs.OnLinks.{all_sent, clock_after, AreReached, MasterTakesFromLinks}
+use Rattle.protocol_ties.specs.OnLinks.{all_sent, clock_after, MasterTakesFromLinks}
+use Rattle.protocol_ties.specs.Numbered.{IsNumbered, AreReached}
+use Rattle.protocol_ties.proofs.Numbered.{num-takes}
+use Rattle.protocol_ties.proofs.Origins.{some-one}
+use Rattle.resource_dir.specs.Takes.{takes}
 use Rattle.protocol_ties.proofs.Bag.{same-trans, same-under}
 use Rattle.protocol_ties.proofs.Links.{same-over, sent-comes-in, taken-has-gone}
 use Rattle.protocol_ties.proofs.Among.{message-is-taken-among-all}
@@ -55,7 +59,10 @@ shows-same {wires = wires} {under = under} {entry = entry} {block = block} same 
 }
 
 pub master-takes-from-links : MasterTakesFromLinks
-master-takes-from-links me from whole directory links packet b entry era mastered first room reached =
+master-takes-from-links me from whole directory links packet b entry era mastered first room =
+    let d = directory-takes-at-one directory b packet.message entry mastered.sized.0 mastered.masters in
+    let numbered = num-takes packet.message entry first.for_master.1 mastered.waits.1 in
+    let reached : AreReached (directory_takes directory b packet.message).sends = subst (λ l. AreReached l) (sym d.sends) numbered.0 in
     let own : wires_at b packet.scn (me, packet.message) ≡ first.wire ∷ [] =
     ap (λ t. cond t (option_to_list (wire_of me packet.scn packet.message)) []) (ap (is_block b) first.about ∙ eq-eqb b b refl) ∙ ap option_to_list first.is in
     let bag : Same (first.wire ∷ bag_of b (taken links from me Main)) (bag_of b links) = subst (λ l. Same (l ++ bag_of b (taken links from me Main)) (bag_of b links)) own (taken-has-gone b links from me Main packet mastered.sized.1 first.instances.1 first.instances.0 first.first) in
@@ -63,13 +70,13 @@ master-takes-from-links me from whole directory links packet b entry era mastere
       place = mastered.place;
       sound = mastered.sound;
       for_master = first.for_master.0;
-      of_made = first.for_master.1;
+      of_made = first.for_master.2;
       wire = first.wire;
       is = first.is;
       shows = shows-same bag mastered.shows;
     } in
     let k = message-is-taken-among-all whole directory me packet.scn b packet.message (bag_of b (taken links from me Main)) entry era
-    (record { sized = mastered.sized.0; masters = mastered.masters; about = first.about; waits = mastered.waits; may = may }) room in
+    (record { sized = mastered.sized.0; masters = mastered.masters; about = first.about; waits = mastered.waits.0; may = may }) room in
     let long : length (taken links from me Main) ≡ 128 = length-set links (place_of from me Main) (drop 1 (waiting_on links from me Main)) ∙ mastered.sized.1 in
     let in-of = sends-in b me (clock_after me packet.scn (view whole b).block) (directory_takes directory b packet.message).sends (taken links from me Main) long first.instances.0 reached in
     record {
@@ -80,7 +87,7 @@ master-takes-from-links me from whole directory links packet b entry era mastere
       mastered = record {
         sized = ((directory-takes-at-one directory b packet.message entry mastered.sized.0 mastered.masters).sized, in-of.1);
         masters = k.here.0;
-        waits = k.here.1;
+        waits = (k.here.1, subst (λ e. IsNumbered e) (some-one (takes entry packet.message).entry k.later (sym d.here ∙ k.here.0)) numbered.1);
         place = ap (λ z. z.place) k.leads.1 ∙ mastered.place;
         sound = k.leads.2;
         shows = shows-same (same-sym (wires_about b (clock_after me packet.scn (view whole b).block) (directory_takes directory b packet.message).sends ++ bag_of b (taken links from me Main)) (bag_of b (all_sent me (clock_after me packet.scn (view whole b).block) (directory_takes directory b packet.message).sends (taken links from me Main))) in-of.0) k.shows;

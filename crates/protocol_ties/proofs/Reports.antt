@@ -12,7 +12,7 @@ use Rattle.wire_net.specs.declared.entry.Holder.{Holder}
 use Rattle.wire_net.specs.declared.entry.Entry.{Entry}
 use Rattle.wire_net.specs.Entry.{grant_of as table_grant, with_grant, empty_entry}
 use Rattle.resource_dir.specs.Holders.{grant_after}
-use Rattle.resource_dir.specs.Rebuilt.{held, kept, with_frame, with_report}
+use Rattle.resource_dir.specs.Rebuilt.{held, kept, with_frame, with_report, rebuilt}
 use Rattle.block_protocol.specs.Block.{Shared, Exclusive, Hold, Idle}
 use Rattle.block_protocol.specs.Turns.{regranted, numbered}
 use Rattle.block_protocol.specs.Made.{one_if, grant_of}
@@ -21,6 +21,7 @@ use Rattle.block_protocol.proofs.Basics.{none-some}
 use Rattle.block_protocol.proofs.Made.{are-grants}
 use Rattle.protocol_ties.specs.Messages.{instances, asks_of, pleas_of}
 use Rattle.protocol_ties.specs.Entries.{shared_hold, listed_beside, listing_of, IsOperation, IsProper}
+use Rattle.protocol_ties.specs.Numbered.{IsHolderNumbered, IsAskerNumbered, IsWaitingNumbered}
 use Rattle.protocol_ties.specs.Reports.{modes_told, IsModeOf, Tells, AreReportsFrom, IsExclusiveAlone, ReportsMakeTheEntry, NewBlockIsShown}
 use Rattle.protocol_ties.proofs.Tables.{grant-same, grant-other, table-sized}
 use Rattle.protocol_ties.proofs.Hears.{nobody-shares}
@@ -221,6 +222,17 @@ beyond frame b i (r ∷ reports) le told j high = let low = told.1 in beyond fra
 small-image : (frame : ℕ → Option Hold) → ((j : ℕ) → instances ≤ j → frame j ≡ None) → (i : ℕ) (f : Hold) → frame i ≡ Some f → i < instances
 small-image frame none-beyond i f e = elim (cases_lt i instances) [ inl low ↦ low | inr high ↦ absurd (none-some (frame i) f (none-beyond i high) e) ]
 
+-- the exclusive holder has an image, and is one of the eight
+holder-low : (frame : ℕ → Option Hold) → IsExclusiveAlone frame → (entry : Entry) → Built frame instances entry → IsHolderNumbered entry.x
+holder-low frame only entry built = go entry.x refl
+  where
+    go : (o : Option Holder) → entry.x ≡ o → IsHolderNumbered o
+    go None e = tt
+    go (Some h) e = elim (cases_lt h.inst instances) [
+      | inl low ↦ low
+      | inr high ↦ absurd (none-some (listing_of entry.x entry.shared h.inst) (record { mode = Exclusive; grant = h.grant }) (built.above h.inst high) (ap (λ x. listing_of x entry.shared h.inst) e ∙ (rw (eq-eqb h.inst h.inst refl) refl)))
+    ]
+
 pub reports-make-the-entry : ReportsMakeTheEntry
 reports-make-the-entry b reports block bound told only =
     let empty : Built block.frame 0 empty_entry = record {
@@ -251,12 +263,20 @@ reports-make-the-entry b reports block bound told only =
         requests = subst (λ q. Same (asks_of q) []) (sym built.idle.1) none;
         proper = subst (λ q. AllByRecursion IsProper q) (sym built.idle.1) tt;
       };
+      numbered = (
+        holder-low block.frame only (rebuilt b reports) built,
+        subst (λ o. IsAskerNumbered o) (sym built.idle.0) tt,
+        subst (λ q. AllByRecursion IsWaitingNumbered q) (sym built.idle.1) tt,
+      );
     }
 
 pub new-block-is-shown : NewBlockIsShown
-new-block-is-shown master = record {
-  tied = record { lists = λ i. sym (ap shared_hold (nobody-shares i)); alone = λ h e. absurd (none-some None h refl e); sized = refl; draws = refl; operation = tt; known = omega arith };
-  messages = none;
-  requests = none;
-  proper = tt;
-}
+new-block-is-shown master = (
+  record {
+    tied = record { lists = λ i. sym (ap shared_hold (nobody-shares i)); alone = λ h e. absurd (none-some None h refl e); sized = refl; draws = refl; operation = tt; known = omega arith };
+    messages = none;
+    requests = none;
+    proper = tt;
+  },
+  (tt, tt, tt),
+)

@@ -213,6 +213,6 @@ unfolding asked-for first-ask among-all
 on-links = (
   among-all.0,
   among-all.1,
-  record { sized = (refl, refl); masters = refl; waits = tt; place = refl; sound = first-ask.may.sound; shows = first-ask.may.shows },
-  record { instances = (omega arith, omega arith); first = refl; about = refl; for_master = (tt, tt); wire = Ask 1 Read 0; is = refl },
+  record { sized = (refl, refl); masters = refl; waits = (tt, (tt, tt, tt)); place = refl; sound = first-ask.may.sound; shows = first-ask.may.shows },
+  record { instances = (omega arith, omega arith); first = refl; about = refl; for_master = (tt, omega arith, tt); wire = Ask 1 Read 0; is = refl },
 )

@@ -10,3 +10,4 @@ pub mod Reports
 pub mod Bags
 pub mod Samples
 pub mod OnLinks
+pub mod Numbered

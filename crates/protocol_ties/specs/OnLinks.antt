@@ -1,6 +1,5 @@
 -- A master takes the first packet of a link, and sends what its handler tells it to.
 use Rattle.std.specs.Prelude.{ℕ, ◌≡◌, ◌≢◌, ◌<◌, List, [], ◌∷◌, Some}
-use Rattle.std.specs.List.{AllByRecursion}
 use Rattle.wire_net.specs.declared.message.Message.{Message}
 use Rattle.wire_net.specs.declared.message.Lane.TheVariants.{Main}
 use Rattle.wire_net.specs.declared.message.Packet.{Packet}
@@ -21,6 +20,7 @@ use Rattle.protocol_ties.specs.Takes.{IsForMaster, IsOfMade, HasRoom}
 use Rattle.protocol_ties.specs.MasterTurns.{all_raised, LeadsTo}
 use Rattle.protocol_ties.specs.Directories.{IsSized, IsSameAt}
 use Rattle.protocol_ties.specs.AmongAll.{WaitsAbout}
+use Rattle.protocol_ties.specs.Numbered.{IsNumbered, IsMessageNumbered}
 use Rattle.protocol_ties.specs.Bags.{AreLinks, bag_of}
 
 -- the links after an instance has sent messages, each in a packet of its clock
@@ -32,7 +32,7 @@ all_sent me scn (told ∷ sends) links = all_sent me scn sends (sent links me to
 pub record IsMastered (me : Inst) (directory : Directory) (links : List (List Packet)) (block_no : BlockNo) (entry : Entry) (block : Block) : Type 0 where
   pub sized : IsSized directory × AreLinks links
   pub masters : entry_of directory block_no ≡ Some entry
-  pub waits : WaitsAbout block_no entry
+  pub waits : WaitsAbout block_no entry × IsNumbered entry
   pub place : block.place ≡ At me
   pub sound : Sound block
   pub shows : Shows (bag_of block_no links) entry block
@@ -42,7 +42,7 @@ pub record IsFirst (me from : Inst) (links : List (List Packet)) (packet : Packe
   pub instances : (me < instances) × (from < instances)
   pub first : first_on links from me Main ≡ Some packet
   pub about : block_of packet.message ≡ Some block_no
-  pub for_master : IsForMaster packet.message × IsOfMade packet.message block
+  pub for_master : IsForMaster packet.message × IsMessageNumbered packet.message × IsOfMade packet.message block
   pub wire : Wire
   pub is : wire_of me packet.scn packet.message ≡ Some wire
 
@@ -54,10 +54,6 @@ clock_after me scn block = clock_there (raised me scn block)
 abbrev pub links_after : Inst → Inst → Directory → List (List Packet) → Packet → BlockNo → Block → List (List Packet)
 links_after me from directory links packet block_no block =
     all_sent me (clock_after me packet.scn block) (directory_takes directory block_no packet.message).sends (taken links from me Main)
-
--- each message goes to one of the instances
-abbrev pub AreReached : List (ℕ × Message) → Type 0
-AreReached sends = AllByRecursion (λ told. told.0 < instances) sends
 
 -- the block is mastered as before, after a run of all blocks; of any other the entry and what is under way are as they were
 pub record GoesOnLinks (me : Inst) (scn : Scn) (whole : AllBlocks) (before directory : Directory) (links_before links : List (List Packet)) (block_no : BlockNo) : Type 0 where
@@ -71,5 +67,4 @@ pub record GoesOnLinks (me : Inst) (scn : Scn) (whole : AllBlocks) (before direc
 abbrev pub MasterTakesFromLinks : Type 0
 MasterTakesFromLinks = (me from : Inst) (whole : AllBlocks) (directory : Directory) (links : List (List Packet)) (packet : Packet) (block_no : BlockNo) (entry : Entry) → IsEra whole.members.phase
     → IsMastered me directory links block_no entry (view whole block_no).block → IsFirst me from links packet block_no (view whole block_no).block → HasRoom entry
-    → AreReached (directory_takes directory block_no packet.message).sends
     → GoesOnLinks me packet.scn whole directory (directory_takes directory block_no packet.message).directory links (links_after me from directory links packet block_no (view whole block_no).block) block_no

@@ -17,6 +17,7 @@ use Rattle.block_protocol.specs.Turns.{AreGrants, thawed}
 use Rattle.block_protocol.specs.Made.{grant_of}
 use Rattle.protocol_ties.specs.Messages.{instances}
 use Rattle.protocol_ties.specs.Entries.{Shows}
+use Rattle.protocol_ties.specs.Numbered.{IsNumbered}
 
 -- the mode that a frame tells, if it is one of the block
 abbrev pub mode_told : BlockNo → Frame → List Mode
@@ -61,6 +62,7 @@ IsExclusiveAlone frame = (inst other : Inst) (hold other_hold : Hold) → frame 
 pub record IsThawedEntry (entry : Entry) (block : Block) (bound : Scn) : Type 0 where
   pub grants : AreGrants (grant_of block.frame) (grant_of block.frame instances) block.frame
   pub shows : Shows [] entry (thawed block (grant_of block.frame) (grant_of block.frame instances) bound)
+  pub numbered : IsNumbered entry
 
 abbrev pub ReportsMakeTheEntry : Type 0
 ReportsMakeTheEntry = (block_no : BlockNo) (reports : List (ℕ × Report)) (block : Block) (bound : Scn) → AreReports block_no reports block.frame → IsExclusiveAlone block.frame
@@ -68,7 +70,7 @@ ReportsMakeTheEntry = (block_no : BlockNo) (reports : List (ℕ × Report)) (blo
 
 -- a block that was never asked for is shown by the empty entry, with nothing under way
 abbrev pub NewBlockIsShown : Type 0
-NewBlockIsShown = (master : Inst) → Shows [] empty_entry (start master)
+NewBlockIsShown = (master : Inst) → Shows [] empty_entry (start master) × IsNumbered empty_entry
 
 -- each instance gets the entries of the blocks that it masters by the table, each made of the reports on its own block, and no
 -- others
