@@ -1,6 +1,6 @@
 -- What a master sends, and what waits, is about the block of the message.
 use Rattle.std.proofs.Common.{◌≡◌, ◌≢◌, ◌∙◌, ℕ, Bool, true, false, cond, List, [], ◌∷◌, ◌++◌, refl, sym, ap, subst}
-use Rattle.std.specs.Prelude.{flat_map, option_to_list, Option, Some, None, nat_le, unwrap_or}
+use Rattle.std.specs.Prelude.{is_some, flat_map, option_to_list, Option, Some, None, nat_le, unwrap_or}
 use Rattle.std.specs.List.{AllByRecursion}
 use Rattle.std.proofs.lemmas.Bool.{eq-eqb, ne_eqb}
 use Rattle.wire_net.specs.declared.message.Mode.{Mode as HoldMode}
@@ -33,7 +33,7 @@ use Rattle.protocol_ties.proofs.Reacts.{done-queue, gave-up-queue}
 
 -- all that is sent is about this block
 abbrev pub AreAbout : Option ℕ → List (ℕ × Message) → Type 0
-AreAbout o sends = AllByRecursion (λ sent. block_of sent.1 ≡ o) sends
+AreAbout o sends = AllByRecursion (λ sent. (block_of sent.1 ≡ o) × ((clock : ℕ) → is_some (wire_of sent.0 clock sent.1) ≡ true)) sends
 
 -- so is what waits
 abbrev pub WaitAbout : Option ℕ → List Waiting → Type 0
@@ -53,24 +53,24 @@ module _ (b : ℕ) (o : Option ℕ) (e : Some b ≡ o) where
   about-invalidates asker shared (i ∷ insts) = go (is_other_sharer shared asker i) (about-invalidates asker shared insts)
     where
       go : (t : Bool) → AreAbout o (flat_map (invalidates_to b asker shared) insts) → AreAbout o (cond t ((i, messages.Invalidate b (unwrap_or (grant_of shared i) 0)) ∷ []) [] ++ flat_map (invalidates_to b asker shared) insts)
-      go true rest = (e, rest)
+      go true rest = ((e, λ clock. refl), rest)
       go false rest = rest
 
   about-shared : (sharer : Option ℕ) (asker : ℕ) (held : HoldMode) (entry : Entry) → AreAbout o (shared_from sharer b asker held entry).sends
-  about-shared None asker held entry = (e, tt)
-  about-shared (Some i) asker held entry = (e, tt)
+  about-shared None asker held entry = ((e, λ clock. refl), tt)
+  about-shared (Some i) asker held entry = ((e, λ clock. refl), tt)
 
   about-read : (x : Option Holder) (asker : ℕ) (held : HoldMode) (entry : Entry) → AreAbout o (read_beside x b asker held entry).sends
   about-read None asker held entry = about-shared (first_sharer entry.shared) asker held entry
-  about-read (Some x) asker held entry = (e, tt)
+  about-read (Some x) asker held entry = ((e, λ clock. refl), tt)
 
   about-cleared : (t : Bool) (asker : ℕ) (held : HoldMode) (entry : Entry) → AreAbout o (cleared t b asker held entry).sends
   about-cleared true asker held entry = about-invalidates asker entry.shared all_insts
-  about-cleared false asker held entry = (e, tt)
+  about-cleared false asker held entry = ((e, λ clock. refl), tt)
 
   about-written : (x : Option Holder) (asker : ℕ) (held : HoldMode) (entry : Entry) → AreAbout o (written_beside x b asker held entry).sends
   about-written None asker held entry = about-cleared (has_other_sharer entry.shared asker) asker held entry
-  about-written (Some x) asker held entry = (e, tt)
+  about-written (Some x) asker held entry = ((e, λ clock. refl), tt)
 
   about-serve : (mode : HoldMode) (asker : ℕ) (held : HoldMode) (entry : Entry) → AreAbout o (serve mode b asker held entry).sends
   about-serve modes.Null asker held entry = tt
@@ -93,7 +93,7 @@ module _ (b : ℕ) (o : Option ℕ) (e : Some b ≡ o) where
   about-on (Some op) entry = go (is_clear op)
     where
       go : (t : Bool) → AreAbout o (go_on_if t op b entry).sends
-      go true = (e, tt)
+      go true = ((e, λ clock. refl), tt)
       go false = tt
 
   about-gone : (g : ℕ) (entry : Entry) → AreAbout o (gone b g entry).sends
@@ -110,7 +110,7 @@ module _ (b : ℕ) (o : Option ℕ) (e : Some b ≡ o) where
   about-keep past entry = go (nat_le past.version entry.written)
     where
       go : (t : Bool) → AreAbout o (cond t (telling entry past.inst (messages.DropPast b past.version)) (silent (record entry { past = with_version entry.past past.inst (Some past.version) }))).sends
-      go true = (e, tt)
+      go true = ((e, λ clock. refl), tt)
       go false = tt
 
   about-keep-any : (past : Option PastHolder) (entry : Entry) → AreAbout o (keep_any b past entry).sends
@@ -141,7 +141,7 @@ module _ (b : ℕ) (o : Option ℕ) (e : Some b ≡ o) where
   about-drops limit past (i ∷ insts) = go (version_of past i) (about-drops limit past insts)
     where
       pick : (v : ℕ) (t : Bool) → AreAbout o (flat_map (λ inst. drops_to b limit (version_of past inst) inst) insts) → AreAbout o (cond t ((i, messages.DropPast b v) ∷ []) [] ++ flat_map (λ inst. drops_to b limit (version_of past inst) inst) insts)
-      pick v true rest = (e, rest)
+      pick v true rest = ((e, λ clock. refl), rest)
       pick v false rest = rest
 
       go : (p : Option ℕ) → AreAbout o (flat_map (λ inst. drops_to b limit (version_of past inst) inst) insts) → AreAbout o (drops_to b limit p i ++ flat_map (λ inst. drops_to b limit (version_of past inst) inst) insts)
@@ -149,8 +149,8 @@ module _ (b : ℕ) (o : Option ℕ) (e : Some b ≡ o) where
       go (Some v) rest = pick v (nat_le v limit) rest
 
   about-plead : (x : Option Holder) (version holder : ℕ) (entry : Entry) → AreAbout o (plead x b version holder entry).sends
-  about-plead (Some x) version holder entry = (e, tt)
-  about-plead None version holder entry = about-append o (wrote b version entry).sends ((holder, messages.DropPast b version) ∷ []) (about-drops version entry.past all_insts) (e, tt)
+  about-plead (Some x) version holder entry = ((e, λ clock. refl), tt)
+  about-plead None version holder entry = about-append o (wrote b version entry).sends ((holder, messages.DropPast b version) ∷ []) (about-drops version entry.past all_insts) ((e, λ clock. refl), tt)
 
   plead-queue : (x : Option Holder) (version holder : ℕ) (entry : Entry) → (plead x b version holder entry).entry.queue ≡ entry.queue
   plead-queue None version holder entry = refl
@@ -160,7 +160,7 @@ module _ (b : ℕ) (o : Option ℕ) (e : Some b ≡ o) where
   about-plea version holder entry = go (nat_le version entry.written)
     where
       go : (t : Bool) → AreAbout o (cond t (telling entry holder (messages.DropPast b version)) (plead entry.x b version holder entry)).sends
-      go true = (e, tt)
+      go true = ((e, λ clock. refl), tt)
       go false = about-plead entry.x version holder entry
 
   about-please : (version holder : ℕ) (entry : Entry) → WaitAbout o entry.queue → AreAbout o (write_please b version holder entry).sends × WaitAbout o (write_please b version holder entry).entry.queue
@@ -173,7 +173,7 @@ module _ (b : ℕ) (o : Option ℕ) (e : Some b ≡ o) where
 
       pick : (t : Bool) → AreAbout o (cond t (telling entry holder (messages.DropPast b version)) (where_busy entry.op (queued entry (waiting.WritePlease b version holder)) (plead entry.x b version holder entry))).sends
           × WaitAbout o (cond t (telling entry holder (messages.DropPast b version)) (where_busy entry.op (queued entry (waiting.WritePlease b version holder)) (plead entry.x b version holder entry))).entry.queue
-      pick true = ((e, tt), q)
+      pick true = (((e, λ clock. refl), tt), q)
       pick false = go entry.op
 
   about-anew : (mode : HoldMode) (new asker : ℕ) (entry : Entry) → WaitAbout o entry.queue → AreAbout o (ask_anew b mode new asker entry).sends × WaitAbout o (ask_anew b mode new asker entry).entry.queue
@@ -231,12 +231,12 @@ about-takes message o entry e q =
 pub wires-here : (b scn : ℕ) (sends : List (ℕ × Message)) → AreAbout (Some b) sends → wires_about b scn sends ≡ wires_of scn sends
 wires-here b scn [] a = refl
 wires-here b scn (x ∷ sends) a =
-    let own : is_block b (block_of x.1) ≡ true = ap (is_block b) a.0 ∙ eq-eqb b b refl in
+    let own : is_block b (block_of x.1) ≡ true = ap (is_block b) a.0.0 ∙ eq-eqb b b refl in
     let rest = wires-here b scn sends a.1 in
     ap (λ t. cond t (option_to_list (wire_of x.0 scn x.1)) [] ++ wires_about b scn sends) own ∙ ap (λ l. option_to_list (wire_of x.0 scn x.1) ++ l) rest
 
 pub wires-there : (b c scn : ℕ) (sends : List (ℕ × Message)) → c ≢ b → AreAbout (Some b) sends → wires_about c scn sends ≡ []
 wires-there b c scn [] ne a = refl
 wires-there b c scn (x ∷ sends) ne a =
-    let other : is_block c (block_of x.1) ≡ false = ap (is_block c) a.0 ∙ ne_eqb b c (λ e. ne (sym e)) in
+    let other : is_block c (block_of x.1) ≡ false = ap (is_block c) a.0.0 ∙ ne_eqb b c (λ e. ne (sym e)) in
     ap (λ t. cond t (option_to_list (wire_of x.0 scn x.1)) [] ++ wires_about c scn sends) other ∙ wires-there b c scn sends ne a.1

@@ -1,10 +1,11 @@
 -- What a master does with a message, among all blocks: one block goes on, and the others see a clock that has risen.
-use Rattle.std.specs.Prelude.{ℕ, ◌≡◌, ◌≢◌, ◌++◌, ◌==◌, if◌then◌else◌, Bool, false, List, [], flat_map, option_to_list, Option, Some, None}
+use Rattle.std.specs.Prelude.{ℕ, ◌≡◌, ◌≢◌, ◌++◌, ◌==◌, if◌then◌else◌, Bool, false, List, [], flat_map, is_some, option_to_list, true, Option, Some, None}
 use Rattle.std.specs.List.{AllByRecursion}
 use Rattle.wire_net.specs.declared.message.Message.{Message}
 use Rattle.wire_net.specs.declared.entry.Entry.{Entry}
 use Rattle.resource_dir.specs.declared.directory.Directory.{Directory}
 use Rattle.resource_dir.specs.Directory.{entry_of, directory_takes}
+use Rattle.resource_dir.specs.Takes.{takes}
 use Rattle.block_protocol.specs.Block.{Inst, Scn, Block}
 use Rattle.block_protocol.specs.Sound.{Sound}
 use Rattle.block_protocol.specs.Steps.{clock_there}
@@ -34,6 +35,15 @@ wires_about block_no scn sends = flat_map (wires_at block_no scn) sends
 -- what waits at the entry is about its block
 abbrev pub WaitsAbout : BlockNo → Entry → Type 0
 WaitsAbout block_no entry = AllByRecursion (λ waiting. block_of_waiting waiting ≡ block_no) entry.queue
+
+-- a message to an instance is one of the protocol, about this block
+abbrev pub IsOfBlock : BlockNo → ℕ × Message → Type 0
+IsOfBlock block_no sent = (block_of sent.1 ≡ Some block_no) × ((clock : Scn) → is_some (wire_of sent.0 clock sent.1) ≡ true)
+
+-- all that the handler sends is, and what waits afterwards is about the block too
+abbrev pub SendsAreOfTheBlock : Type 0
+SendsAreOfTheBlock = (block_no : BlockNo) (message : Message) (entry : Entry) → block_of message ≡ Some block_no → WaitsAbout block_no entry
+    → AllByRecursion (IsOfBlock block_no) (takes entry message).sends × WaitsAbout block_no (takes entry message).entry
 
 -- the instance is the block's master, and takes a message on it
 pub record MayTakeAmong (whole : AllBlocks) (directory : Directory) (me : Inst) (scn : Scn) (block_no : BlockNo) (message : Message) (wires : List Wire) (entry : Entry) : Type 0 where

@@ -1,5 +1,5 @@
 ghost use Rattle.protocol_ties.specs.Takes.{MessageIsARun};
-ghost use Rattle.protocol_ties.specs.AmongAll.{MessageIsTakenAmongAll};
+ghost use Rattle.protocol_ties.specs.AmongAll.{MessageIsTakenAmongAll, SendsAreOfTheBlock};
 ghost use Rattle.protocol_ties.specs.Bags.{NothingIsBorne, SentComesIn, TakenHasGone};
 ghost use Rattle.protocol_ties.specs.Directories.{BucketsMoveWhole, DirectoryDrops, DirectoryTakesAtOne, EntryComes, EntryLeaves, EntryStaysShown};
 ghost use Rattle.protocol_ties.specs.GoesOn.{MessageGoesOn};
@@ -8,9 +8,11 @@ ghost use Rattle.protocol_ties.specs.OnLinks.{MasterTakesFromLinks};
 ghost use Rattle.protocol_ties.specs.Reports.{DirectoryIsMadeByEntries, NewBlockIsShown, ReportsMakeTheEntry};
 
 /// What a master does with a message, as the directory's crate has it, is a run of the protocol of one block: the entry
-/// that it comes to and what it sends are those of the state that the run leads to.
+/// that it comes to and what it sends are those of the state that the run leads to. All that it sends is a message of the
+/// protocol about that block.
 pub fn a_message_is_a_run()
-    ensures { MessageIsARun }
+    ensures run { MessageIsARun }
+    ensures sends { SendsAreOfTheBlock }
 {}
 
 /// A run of a master's steps, after the packet that raised its clock, is a run of turns of the block in its cluster, and so
