@@ -21,3 +21,4 @@ pub mod Links
 pub mod SampleStates
 pub mod OnLinks
 pub mod Numbered
+pub mod Places

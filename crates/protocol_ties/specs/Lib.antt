@@ -11,3 +11,4 @@ pub mod Bags
 pub mod Samples
 pub mod OnLinks
 pub mod Numbered
+pub mod Places

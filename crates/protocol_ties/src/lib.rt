@@ -10,8 +10,8 @@ mod ties;
 
 pub use samples::sample_states;
 pub use ties::{
-    a_directory_is_made_by_entries, a_directory_takes_at_one_entry, a_master_takes_from_the_links,
-    a_message_goes_on, a_message_is_a_run, a_message_is_taken_among_all_blocks,
-    a_run_of_the_master_is_one_of_turns, an_entry_moves, the_links_bear_the_bag,
-    the_reports_make_the_entry,
+    a_cache_follows, a_directory_is_made_by_entries, a_directory_takes_at_one_entry,
+    a_master_takes_from_the_links, a_message_goes_on, a_message_is_a_run,
+    a_message_is_taken_among_all_blocks, a_run_of_the_master_is_one_of_turns, an_entry_moves,
+    the_links_bear_the_bag, the_reports_make_the_entry,
 };

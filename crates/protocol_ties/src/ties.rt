@@ -5,6 +5,7 @@ ghost use Rattle.protocol_ties.specs.Directories.{BucketsMoveWhole, DirectoryDro
 ghost use Rattle.protocol_ties.specs.GoesOn.{MessageGoesOn};
 ghost use Rattle.protocol_ties.specs.MasterTurns.{MasterRunsAreTurns, MasterRunsAreTurnsOfAll};
 ghost use Rattle.protocol_ties.specs.OnLinks.{MasterTakesFromLinks};
+ghost use Rattle.protocol_ties.specs.Places.{CacheChanges, CacheDropsPast, CacheEvicts, CacheHasNone, CacheInstalls, CacheInvalidates, CacheReads, CacheShips, CacheUpgrades, CacheWrites, MastersLeaveCaches};
 ghost use Rattle.protocol_ties.specs.Reports.{DirectoryIsMadeByEntries, NewBlockIsShown, ReportsMakeTheEntry};
 
 /// What a master does with a message, as the directory's crate has it, is a run of the protocol of one block: the entry
@@ -75,4 +76,20 @@ pub fn the_links_bear_the_bag()
 /// directory and the links show the block's state holds again afterwards, all blocks having gone on by a run.
 pub fn a_master_takes_from_the_links()
     ensures { MasterTakesFromLinks }
+{}
+
+/// What a call on a cache does to what its instance has of a block is what the step of the protocol does to the images; and
+/// what a master does leaves every cache. Which call is made when, and what is sent, is the holder's side, which isn't here.
+pub fn a_cache_follows()
+    ensures changes { CacheChanges }
+    ensures writes { CacheWrites }
+    ensures evicts { CacheEvicts }
+    ensures invalidates { CacheInvalidates }
+    ensures has_none { CacheHasNone }
+    ensures ships { CacheShips }
+    ensures installs { CacheInstalls }
+    ensures reads { CacheReads }
+    ensures upgrades { CacheUpgrades }
+    ensures drops_past { CacheDropsPast }
+    ensures masters { MastersLeaveCaches }
 {}
