@@ -11,13 +11,16 @@ use Rattle.wire_net.specs.declared.message.Mode.TheVariants as modes
 use Rattle.buffer_cache.specs.declared.place.Current.{Current}
 use Rattle.buffer_cache.specs.declared.place.PastImage.{PastImage}
 use Rattle.buffer_cache.specs.declared.place.Place.{Place}
-use Rattle.buffer_cache.specs.Place.{is_exclusive, changed, left_behind, given_up, read_from_disk, shipped, unless_clean, unless_granted, upgraded, written, past_above, with_change, with_current, with_written, without_clean, without_grant, without_past}
+use Rattle.buffer_cache.specs.Place.{empty_place, with_grant, is_exclusive, changed, left_behind, given_up, read_from_disk, shipped, unless_clean, unless_granted, upgraded, written, past_above, with_change, with_current, with_written, without_clean, without_grant, without_past}
 use Rattle.block_protocol.specs.Block.{Mode, Shared, Exclusive, Hold, Grants, Grant, Shipped, Done, Gone, GaveUp, Block, put, past_kept, unless_written}
 use Rattle.block_protocol.specs.Steps.{left}
 use Rattle.block_protocol.proofs.Basics.{none-some, put-same, put-other, put-elim}
 use Rattle.block_protocol.proofs.Keep.{Sound-at}
+use Rattle.block_protocol.specs.Members.{after_loss}
+use Rattle.block_protocol.specs.Turns.{regranted as grant_anew}
+use Rattle.wire_net.specs.declared.message.Role.{Role}
 use Rattle.protocol_ties.specs.Messages.{hold_of, shipped_hold}
-use Rattle.protocol_ties.specs.Places.{past_version_of, IsPlaceOf, ArePlaces, place_shipped, CacheChanges, CacheWrites, CacheEvicts, CacheInvalidates, CacheHasNone, CacheShips, CacheInstalls, CacheReads, CacheUpgrades, CacheDropsPast, MastersLeaveCaches}
+use Rattle.protocol_ties.specs.Places.{past_version_of, IsPlaceOf, ArePlaces, place_shipped, CacheChanges, CacheWrites, CacheEvicts, CacheInvalidates, CacheHasNone, CacheShips, CacheInstalls, CacheReads, CacheUpgrades, CacheDropsPast, MastersLeaveCaches, NoCacheHasNewBlock, LostCacheIsEmpty, CachesAreRegranted}
 use Rattle.protocol_ties.proofs.Origins.{some-one}
 
 -- the parts of the protocol's state are known by equations
@@ -248,3 +251,44 @@ cache-drops-past s places i version rest takes are =
 pub masters-leave-caches : MastersLeaveCaches
 masters-leave-caches s t places beside are i =
     as-is (t.frame i) (s.frame i) (t.version i) (s.version i) (t.dirty i) (s.dirty i) (t.past i) (s.past i) (places i).current (places i).past (ap (λ z. z.frame i) beside) (ap (λ z. z.version i) beside) (ap (λ z. z.dirty i) beside) (ap (λ z. z.past i) beside) (are i)
+
+nothing-held : IsPlaceOf None 0 false None None None
+nothing-held = none-there None 0 false None None None refl refl
+
+pub no-cache-has-new-block : NoCacheHasNewBlock
+no-cache-has-new-block master i = nothing-held
+
+pub lost-cache-is-empty : LostCacheIsEmpty
+lost-cache-is-empty s places actual i kept bound scn are =
+    all-places places s (after_loss s actual i kept bound scn) i empty_place are
+    (as-is (put s.frame i None i) None (s.version i) (s.version i) (s.dirty i) (s.dirty i) (put s.past i None i) None None None (put-same s.frame i None) refl refl (put-same s.past i None)
+    (none-there (s.frame i) (s.version i) (s.dirty i) None None None refl refl))
+    (λ j ne. (put-other s.frame i None j ne, refl, refl, put-other s.past i None j ne))
+
+core-thaws : (hold : Option Hold) (v : ℕ) (d : Bool) (p : Option ℕ) (past : Option PastImage) (c : Option Current) (n : ℕ) (role : Role) → IsPlaceOf hold v d p c past → IsPlaceOf (grant_anew n hold) v d p (option_map (with_grant n role) c) past
+core-thaws hold v d p past None n role is = record {
+  held = ap (grant_anew n) is.held;
+  there = λ other q. absurd (let clash : ◌≡◌ {A = Option Current} None (Some other) = q in cc);
+  numbered = λ other q. absurd (let clash : ◌≡◌ {A = Option Current} None (Some other) = q in cc);
+  marked = λ other q. absurd (let clash : ◌≡◌ {A = Option Current} None (Some other) = q in cc);
+  kept = is.kept;
+}
+core-thaws hold v d p past (Some now) n role is = record {
+  held = ap (grant_anew n) is.held ∙ anew now.mode;
+  there = λ other q none. is.there now refl (was-none hold none);
+  numbered = λ other q. is.numbered now refl ∙ ap (λ z. z.image.front.version) (some-now (with_grant n role now) other q);
+  marked = λ other q. is.marked now refl ∙ ap (λ z. z.dirty) (some-now (with_grant n role now) other q);
+  kept = is.kept;
+}
+  where
+    anew : (m : HoldMode) → grant_anew n (hold_of m now.grant) ≡ hold_of m n
+    anew modes.Null = refl
+    anew modes.Shared = refl
+    anew modes.Exclusive = refl
+
+    was-none : (o : Option Hold) → grant_anew n o ≡ None → o ≡ None
+    was-none None e = refl
+    was-none (Some k) e = absurd (let clash : ◌≡◌ {A = Option Hold} (Some (record { mode = k.mode; grant = n })) None = e in cc)
+
+pub caches-are-regranted : CachesAreRegranted
+caches-are-regranted s places number next bound role are i = core-thaws (s.frame i) (s.version i) (s.dirty i) (s.past i) (places i).past (places i).current (number i) (role i) (are i)

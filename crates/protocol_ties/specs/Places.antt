@@ -5,14 +5,18 @@ use Rattle.base_types.specs.declared.names.Scn.{Scn as RecordScn}
 use Rattle.redo_types.specs.declared.blocks.RowChange.{RowChange}
 use Rattle.block_image.specs.Block.{BlockContent}
 use Rattle.wire_net.specs.declared.message.Mode.{Mode}
+use Rattle.wire_net.specs.declared.message.Role.{Role}
 use Rattle.wire_net.specs.declared.message.Shipment.{Shipment}
 use Rattle.buffer_cache.specs.declared.place.Current.{Current}
 use Rattle.buffer_cache.specs.declared.place.PastImage.{PastImage}
 use Rattle.buffer_cache.specs.declared.place.Place.{Place}
-use Rattle.buffer_cache.specs.Place.{given_up, read_from_disk, shipped, upgraded, with_change, with_current, with_written, without_clean, without_grant, without_past}
-use Rattle.block_protocol.specs.Block.{Inst, Scn, Version, GrantNo, Mode as ProtocolMode, Shared, Exclusive, Hold, Quiet, ShipTo, Shipped, Grant, Grants, Invalidate, Note, DropPast, Memo, Block, put, Takes}
+use Rattle.buffer_cache.specs.Place.{empty_place, regranted, given_up, read_from_disk, shipped, upgraded, with_change, with_current, with_written, without_clean, without_grant, without_past}
+use Rattle.block_protocol.specs.Block.{Inst, Scn, Version, GrantNo, Mode as ProtocolMode, Shared, Exclusive, Hold, Quiet, ShipTo, Shipped, Grant, Grants, Invalidate, Note, DropPast, Memo, Record, Block, put, Takes}
 use Rattle.block_protocol.specs.Steps.{Step, IsForced, ServesNot, changes, writes, evicts, invalidates, was_gone, ships, installs_shipped, installs_from_disk, installs_held, drops_past}
 use Rattle.block_protocol.specs.Sound.{Sound}
+use Rattle.block_protocol.specs.Runs.{start}
+use Rattle.block_protocol.specs.Members.{after_loss}
+use Rattle.block_protocol.specs.Turns.{thawed}
 use Rattle.protocol_ties.specs.Messages.{hold_of, shipped_hold}
 use Rattle.protocol_ties.specs.MasterRuns.{LeavesRest}
 
@@ -107,3 +111,17 @@ CacheDropsPast = (block : Block) (places : Inst → Place) (inst : Inst) (versio
 -- what a master does leaves the caches
 abbrev pub MastersLeaveCaches : Type 0
 MastersLeaveCaches = (before after : Block) (places : Inst → Place) → LeavesRest before after → ArePlaces places before → ArePlaces places after
+
+-- of a new block there is no image
+abbrev pub NoCacheHasNewBlock : Type 0
+NoCacheHasNewBlock = (master : Inst) → ArePlaces (λ inst. empty_place) (start master)
+
+-- an instance that is lost, or comes, has nothing in its cache
+abbrev pub LostCacheIsEmpty : Type 0
+LostCacheIsEmpty = (block : Block) (places : Inst → Place) (actual : Inst → Scn) (inst : Inst) (kept : List Record) (bound scn : Scn)
+    → ArePlaces places block → ArePlaces (put places inst empty_place) (after_loss block actual inst kept bound scn)
+
+-- after a Thaw each image has its new grant, whatever its role
+abbrev pub CachesAreRegranted : Type 0
+CachesAreRegranted = (block : Block) (places : Inst → Place) (number : Inst → GrantNo) (next : GrantNo) (bound : Scn) (role : Inst → Role)
+    → ArePlaces places block → ArePlaces (λ inst. regranted (number inst) (role inst) (places inst)) (thawed block number next bound)

@@ -5,7 +5,7 @@ ghost use Rattle.protocol_ties.specs.Directories.{BucketsMoveWhole, DirectoryDro
 ghost use Rattle.protocol_ties.specs.GoesOn.{MessageGoesOn};
 ghost use Rattle.protocol_ties.specs.MasterTurns.{MasterRunsAreTurns, MasterRunsAreTurnsOfAll};
 ghost use Rattle.protocol_ties.specs.OnLinks.{MasterTakesFromLinks};
-ghost use Rattle.protocol_ties.specs.Places.{CacheChanges, CacheDropsPast, CacheEvicts, CacheHasNone, CacheInstalls, CacheInvalidates, CacheReads, CacheShips, CacheUpgrades, CacheWrites, MastersLeaveCaches};
+ghost use Rattle.protocol_ties.specs.Places.{CacheChanges, CacheDropsPast, CacheEvicts, CacheHasNone, CacheInstalls, CacheInvalidates, CacheReads, CacheShips, CacheUpgrades, CacheWrites, CachesAreRegranted, LostCacheIsEmpty, MastersLeaveCaches, NoCacheHasNewBlock};
 ghost use Rattle.protocol_ties.specs.Reports.{DirectoryIsMadeByEntries, NewBlockIsShown, ReportsMakeTheEntry};
 
 /// What a master does with a message, as the directory's crate has it, is a run of the protocol of one block: the entry
@@ -92,4 +92,7 @@ pub fn a_cache_follows()
     ensures upgrades { CacheUpgrades }
     ensures drops_past { CacheDropsPast }
     ensures masters { MastersLeaveCaches }
+    ensures new { NoCacheHasNewBlock }
+    ensures lost { LostCacheIsEmpty }
+    ensures regranted { CachesAreRegranted }
 {}
