@@ -1,0 +1,14 @@
+pub mod Messages
+pub mod Entries
+pub mod MasterRuns
+pub mod Takes
+pub mod MasterTurns
+pub mod GoesOn
+pub mod Directories
+pub mod AmongAll
+pub mod Reports
+pub mod Bags
+pub mod Samples
+pub mod OnLinks
+pub mod Numbered
+pub mod Places
