@@ -88,7 +88,7 @@ fn first_lack(first: Option<Lacking>, later: Option<Lacking>) -> Option<Lacking>
 }
 
 // What a session's line lacks.
-fn lacking(inst: &Inst, session: u16) -> Option<Lacking>
+fn lack_of(inst: &Inst, session: u16) -> Option<Lacking>
     ensures { result ≡ lacking inst.now session }
 {
     let copy = copy_lacks(read_made(inst, session));
@@ -113,7 +113,7 @@ ghost use Rattle.inst_state.specs.State.{session_at};
 pub fn may_ask_undo(inst: &Inst, session: u16) -> bool
     ensures { result ≡ may_ask_undo inst.now session }
 {
-    inst.works() && !is_asked(inst, usize::from(session)) && lacking(inst, session).is_some()
+    inst.works() && !is_asked(inst, usize::from(session)) && lack_of(inst, session).is_some()
 }
 
 /// Whether what is at hand of the dead transaction makes no sense, so that the instance ends.
@@ -288,7 +288,7 @@ pub fn ask_undo<D: SharedDisk>(
     ensures core { IfOk result (λ how. core.new ≡ undo_ask_told inst.old core.old session how) }
     ensures disk { IfOk result (λ how. AsksUndoAs inst.old core.old session how (D.state disk.old) (D.state disk.new)) }
 {
-    match lacking(inst, session) {
+    match lack_of(inst, session) {
         Some(Lacking::Undo(wanted)) => {
             let place = place_of(&inst.plan.layout, wanted);
             ask_place(alloc, inst, session, place, core, disk)

@@ -43,7 +43,7 @@ fn adopted_with(segments: &[Segment], block: BlockNo) -> Option<usize>
     segments.iter().position(|segment| has_block(block, segment))
 }
 
-fn target(inst: &Inst, block: BlockNo) -> Target
+fn target_of(inst: &Inst, block: BlockNo) -> Target
     ensures { result ≡ target inst.now block }
 {
     if block.get() < inst.cache.blocks() {
@@ -180,7 +180,7 @@ fn own_is_due(inst: &Inst, core: &Core, block: BlockNo) -> bool
 pub fn is_due(inst: &Inst, core: &Core, block: BlockNo) -> bool
     ensures { result ≡ is_due inst.now core.now block }
 {
-    match target(inst, block) {
+    match target_of(inst, block) {
         Target::Data => is_data_due(inst, core, block),
         Target::Adopted(at) => {
             leads(inst, core) && is_dirty_at(inst.leading.adopted.get(at), block)
@@ -224,7 +224,7 @@ fn adopted_is_durable(inst: &Inst, segment: Option<&Segment>, block: BlockNo) ->
 pub fn redo_is_durable(inst: &Inst, block: BlockNo) -> bool
     ensures { result ≡ redo_is_durable inst.now block }
 {
-    match target(inst, block) {
+    match target_of(inst, block) {
         Target::Data => inst.is_durable(block),
         Target::Adopted(at) => adopted_is_durable(inst, inst.leading.adopted.get(at), block),
         Target::Own => undo_is_durable(inst, &inst.segment, block),
@@ -277,7 +277,7 @@ fn undo_bytes_at(segment: Option<&Segment>, block: BlockNo) -> [u8; 512]
 fn bytes_to_write(inst: &Inst, block: BlockNo) -> [u8; 512]
     ensures { result ≡ bytes_to_write inst.now block }
 {
-    match target(inst, block) {
+    match target_of(inst, block) {
         Target::Data => image_bytes(inst.cache.image(block)),
         Target::Adopted(at) => undo_bytes_at(inst.leading.adopted.get(at), block),
         Target::Own => undo_bytes_in(&inst.segment, block),
@@ -335,7 +335,7 @@ fn leave_wave(wave: &mut OwnWave, k: Option<u8>)
 fn note_write(inst: &mut Inst, block: BlockNo)
     ensures { inst.new ≡ written_as inst.old block (target inst.old block) }
 {
-    match target(inst, block) {
+    match target_of(inst, block) {
         Target::Data => {
             inst.cache.wrote(block);
             left_frame(inst, block);
@@ -379,7 +379,7 @@ fn send_wrote(inst: &Inst, core: &mut Core, block: BlockNo) -> Result<(), NoMemo
 fn tell_write(inst: &Inst, core: &mut Core, block: BlockNo) -> Result<(), NoMemory>
     ensures { OnOk result (core.new ≡ write_told_as inst.now core.old block (target inst.now block)) }
 {
-    match target(inst, block) {
+    match target_of(inst, block) {
         Target::Data => send_wrote(inst, core, block),
         _ => Ok(()),
     }
