@@ -3,6 +3,7 @@ use Rattle.std.specs.Prelude.{ℕ, ◌==◌, ◌&&◌, not, nat_le, nat_lt, max,
 use Rattle.std.specs.List.{list_any, range_with_len}
 use Rattle.base_types.specs.declared.names.RedoAt.{RedoAt}
 use Rattle.control_image.specs.declared.entry.ControlEntry.{ControlEntry}
+use Rattle.control_image.specs.Entry.{entry_bytes}
 use Rattle.control_image.specs.declared.entry.ThreadStatus.TheVariants.{Running}
 use Rattle.journal.specs.declared.entry.Entry.TheVariants.{Checkpointed}
 use Rattle.scn_clock.specs.declared.clock.Clock.{Clock}
@@ -75,6 +76,10 @@ entry_now n = record {
   highest_scn = (scns_now n).scn;
   highest_end_scn = (scns_now n).known;
 }
+
+-- the bytes of a control entry
+unfoldable pub bytes_of_entry : ControlEntry → List ℕ
+bytes_of_entry entry = entry_bytes entry
 
 -- an instance whose checkpoint has ended
 abbrev pub checkpoint_ended : Inst → ℕ → Inst

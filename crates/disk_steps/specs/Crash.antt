@@ -1,5 +1,5 @@
 -- An instance crashes, as a line asks.
-use Rattle.std.specs.Prelude.{◌≡◌, ℕ, ◌+◌, ◌-◌, ◌^◌, min, List, [], length, take, Option, None, Some}
+use Rattle.std.specs.Prelude.{◌≡◌, ℕ, ◌+◌, ◌-◌, ◌^◌, min, false, List, [], length, take, Option, None, Some}
 use Rattle.rac_disk.specs.State.{State}
 use Rattle.script_text.specs.declared.item.Keep.{Keep}
 use Rattle.script_text.specs.declared.item.Keep.TheVariants.{All, AllBut, First}
@@ -8,7 +8,7 @@ use Rattle.inst_state.specs.declared.control.Wanted.{Wanted}
 use Rattle.inst_state.specs.declared.control.Wanted.TheVariants.{Crash}
 use Rattle.inst_state.specs.declared.inst.Inst.{Inst}
 use Rattle.inst_state.specs.declared.shared.Core.{Core}
-use Rattle.inst_state.specs.Shared.{answering, due_crash}
+use Rattle.inst_state.specs.Shared.{answering, open_control}
 use Rattle.inst_loss.specs.Lost.{lost}
 use Rattle.inst_loss.specs.LostCore.{lost_core}
 use Rattle.inst_loss.specs.declared.ends.Loss.TheVariants as loss
@@ -43,34 +43,34 @@ crash_told_by n core control Nothing = lost_core n core (loss.Crashed control.li
 crash_told_by n core control (Bytes Whole) = lost_core n core (loss.Crashed control.line) (Some (kept_to n control))
 crash_told_by n core control (Bytes (Cut kept)) = lost_core n (answering core control.line) (loss.Ended false) kept
 
--- an instance after its crash, if one is due
+-- an instance after its crash, if a line asks for it
 abbrev pub crashed_by : Inst → Option Control → Inst
 crashed_by n None = n
 crashed_by n (Some control) = lost n
 
--- an instance after its crash
-abbrev pub crashed : Inst → Core → Inst
-crashed n core = crashed_by n (due_crash core n.plan.me)
+-- an instance after its crash by a line of the current wave
+abbrev pub crashed : Inst → Core → ℕ → Inst
+crashed n core line = crashed_by n (open_control core line)
 
--- the shared part after a crash, if one is due
+-- the shared part after a crash, if a line asks for it
 abbrev pub crash_told_if : Inst → Core → Option Control → Kept → Core
 crash_told_if n core None kept = core
 crash_told_if n core (Some control) kept = crash_told_by n core control kept
 
--- the shared part after a crash, as its append went
-abbrev pub crash_told : Inst → Core → Kept → Core
-crash_told n core kept = crash_told_if n core (due_crash core n.plan.me) kept
+-- the shared part after a crash by a line of the current wave, as its append went
+abbrev pub crash_told : Inst → Core → ℕ → Kept → Core
+crash_told n core line kept = crash_told_if n core (open_control core line) kept
 
 -- What a crash left on the disk that kept these bytes: there is no call where there are none.
 abbrev pub KeepsAs : ℕ → List ℕ → Kept → State → State → Type 0
 KeepsAs me bytes Nothing old new = (bytes ≡ []) × (new ≡ old)
 KeepsAs me bytes (Bytes how) old new = AppendsAs me bytes how old new
 
--- the bytes that reach the disk as an instance crashes, if a crash is due
+-- the bytes that reach the disk as an instance crashes, if a line asks for it
 abbrev pub bytes_if : Inst → Option Control → List ℕ
 bytes_if n None = []
 bytes_if n (Some control) = crash_bytes n control
 
--- What a crash left on the disk.
-abbrev pub CrashesAs : Inst → Core → Kept → State → State → Type 0
-CrashesAs n core how old new = KeepsAs n.plan.me (bytes_if n (due_crash core n.plan.me)) how old new
+-- What a crash by a line of the current wave left on the disk.
+abbrev pub CrashesAs : Inst → Core → ℕ → Kept → State → State → Type 0
+CrashesAs n core line how old new = KeepsAs n.plan.me (bytes_if n (open_control core line)) how old new

@@ -79,18 +79,24 @@ abbrev pub is_due_but_redo : Inst → Core → ℕ → Bool
 is_due_but_redo n core block = is_due n core block && not (redo_is_durable n block)
 
 -- Some block would be written but for its redo. No disk has more than 200 blocks.
-abbrev pub has_due_block : Inst → Core → Bool
+unfoldable pub has_due_block : Inst → Core → Bool
 has_due_block n core = list_any (is_due_but_redo n core) (range_with_len 0 200)
 
--- Somebody or something waits for the redo to be forced.
-abbrev pub wants_force : Inst → Core → Bool
-wants_force n core =
-    has_session_end n || is_asked_for n core || is_waited_for n || nat_lt (free_bytes n) 236 || has_due_block n core
-    || not (length n.wave.checkpoints == 0) || is_ready_but_forced n core
+-- An end, a message or a session's line waits for the redo to be forced.
+unfoldable pub is_awaited : Inst → Core → Bool
+is_awaited n core = has_session_end n || is_asked_for n core || is_waited_for n
+
+-- The buffer is nearly full, or a block waits for its redo to be forced.
+unfoldable pub is_pressed : Inst → Core → Bool
+is_pressed n core = nat_lt (free_bytes n) 236 || has_due_block n core
+
+-- A checkpoint or a Reopen waits for the redo to be forced.
+unfoldable pub ends_by_force : Inst → Core → Bool
+ends_by_force n core = not (length n.wave.checkpoints == 0) || is_ready_but_forced n core
 
 -- Redo is forced that waits, where that is wanted.
 abbrev pub may_force : Inst → Core → Bool
-may_force n core = not (is_down n.life) && not (is_forced n) && wants_force n core
+may_force n core = not (is_down n.life) && not (is_forced n) && (is_awaited n core || is_pressed n core || ends_by_force n core)
 
 -- a clock once an end is on the disk
 abbrev pub end_learnt : Clock → WaitingEnd → Clock

@@ -42,8 +42,8 @@ fn kept_by(wanted: Wanted, waiting: usize) -> usize
     }
 }
 
-fn crash_bytes(inst: &Inst, control: Control) -> &[u8]
-    ensures { result.now ≡ crash_bytes inst.now control }
+fn crash_bytes<'i>(inst: &'i Inst, control: &Control) -> &'i [u8]
+    ensures { result.now ≡ crash_bytes inst.now control.now }
 {
     let waiting = inst.thread.waiting();
     let count = kept_by(control.wanted, waiting.len());
@@ -61,8 +61,8 @@ fn keep_bytes<D: SharedDisk>(disk: &mut D, me: InstNo, bytes: &[u8]) -> Kept
     }
 }
 
-fn kept_to(inst: &Inst, control: Control) -> u64
-    ensures { result ≡ kept_to inst.now control }
+fn kept_to(inst: &Inst, control: &Control) -> u64
+    ensures { result ≡ kept_to inst.now control.now }
 {
     let count = crash_bytes(inst, control).len() as u64;
     inst.thread.durable().get().saturating_add(count)
@@ -72,11 +72,11 @@ fn tell_crash(
     alloc: Global,
     inst: &mut Inst,
     core: &mut Core,
-    control: Control,
+    control: &Control,
     how: Kept,
 ) -> Result<(), NoMemory>
     ensures part { OnOk result (inst.new ≡ lost inst.old) }
-    ensures core { OnOk result (core.new ≡ crash_told_by inst.old core.old control how) }
+    ensures core { OnOk result (core.new ≡ crash_told_by inst.old core.old control.now how) }
 {
     let line = control.line;
     let crashed = Loss::Crashed { line };
@@ -96,7 +96,7 @@ fn tell_crash(
     }
 }
 
-/// An instance whose crash is due crashes: some of the redo that waits is appended to its log, as the line asks, and what it
+/// An instance crashes by a line of the current wave: some of the redo that waits is appended to its log, as the line asks, and what it
 /// had in memory is lost. How the append went is returned; a crash in which it failed is an end by a fault.
 ///
 /// # Errors
@@ -105,17 +105,18 @@ fn tell_crash(
 pub fn crash<D: SharedDisk>(
     alloc: Global,
     inst: &mut Inst,
+    line: u32,
     core: &mut Core,
     disk: &mut D,
 ) -> Result<Kept, NoMemory>
-    ensures part { IfOk result (λ how. inst.new ≡ crashed inst.old core.old) }
-    ensures core { IfOk result (λ how. core.new ≡ crash_told inst.old core.old how) }
-    ensures disk { IfOk result (λ how. CrashesAs inst.old core.old how (D.state disk.old) (D.state disk.new)) }
+    ensures part { IfOk result (λ how. inst.new ≡ crashed inst.old core.old line) }
+    ensures core { IfOk result (λ how. core.new ≡ crash_told inst.old core.old line how) }
+    ensures disk { IfOk result (λ how. CrashesAs inst.old core.old line how (D.state disk.old) (D.state disk.new)) }
 {
-    match core.due_crash(inst.plan.me) {
+    match core.open_control(u64::from(line)) {
         Some(control) => {
-            let how = keep_bytes(disk, inst.plan.me, crash_bytes(inst, control));
-            tell_crash(alloc, inst, core, control, how)?;
+            let how = keep_bytes(disk, inst.plan.me, crash_bytes(inst, &control));
+            tell_crash(alloc, inst, core, &control, how)?;
             Ok(how)
         }
         None => Ok(Kept::Nothing),

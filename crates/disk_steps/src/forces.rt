@@ -4,8 +4,9 @@ ghost use Rattle.std.specs.Prelude.{◌≡◌, ◌<◌, [], fold, slice_index_or
 ghost use Rattle.std.specs.Option.{option_copied};
 ghost use Rattle.std.specs.List.{list_any, range_with_len};
 ghost use Rattle.inst_state.specs.Sessions.{new_session};
-ghost use Rattle.disk_steps.specs.Force.{ForcesAs, asks_from, bears_redo, commit_told, end_learnt, end_on_disk, end_told_to, force_told, forced_as, has_due_block, has_session_end, is_asked_for, is_due_but_redo, is_force_first, is_waited_for, line_waits, may_force, session_on_disk, start_waits, thread_after, wants_force, with_end_on_disk};
+ghost use Rattle.disk_steps.specs.Force.{ForcesAs, asks_from, bears_redo, commit_told, end_learnt, end_on_disk, end_told_to, force_told, forced_as, has_due_block, has_session_end, is_asked_for, is_due_but_redo, is_force_first, is_waited_for, line_waits, may_force, session_on_disk, start_waits, thread_after, ends_by_force, is_awaited, is_pressed, with_end_on_disk};
 
+use crate::ready::is_ready_but_forced;
 use crate::writing::{is_due, redo_is_durable};
 use base_types::{BlockNo, InstNo, NoMemory};
 use disk_calls::{Appended, log_len};
@@ -16,7 +17,6 @@ use inst_state::{Core, Doing, Ending, Inst, Session, Table, WaitingEnd};
 use journal::{Entry, Journal};
 use rac_disk::SharedDisk;
 use redo_thread::RedoThread;
-use crate::ready::is_ready_but_forced;
 use scn_clock::Clock;
 use std::alloc::Global;
 use stmt_steps::change_decided;
@@ -102,29 +102,55 @@ fn is_due_but_redo(inst: &Inst, core: &Core, block: BlockNo) -> bool
     is_due(inst, core, block) && !redo_is_durable(inst, block)
 }
 
+#[tactic(auto, unfolding(crate::specs::Force::has_due_block))]
 fn has_due_block(inst: &Inst, core: &Core) -> bool
     ensures { result ≡ has_due_block inst.now core.now }
 {
     (0..200u16).any(|block| is_due_but_redo(inst, core, BlockNo(block)))
 }
 
-fn wants_force(inst: &Inst, core: &Core) -> bool
-    ensures { result ≡ wants_force inst.now core.now }
+#[tactic(auto, unfolding(crate::specs::Force::is_awaited))]
+fn is_awaited(inst: &Inst, core: &Core) -> bool
+    ensures { result ≡ is_awaited inst.now core.now }
 {
-    has_session_end(inst)
-        || is_asked_for(inst, core)
-        || is_waited_for(inst)
-        || inst.free_bytes() < 236
-        || has_due_block(inst, core)
-        || !inst.wave.checkpoints.is_empty()
-        || is_ready_but_forced(inst, core)
+    has_session_end(inst) || is_asked_for(inst, core) || is_waited_for(inst)
 }
+
+fn has_begun(inst: &Inst) -> bool
+    ensures { result ≡ not (length inst.now.wave.checkpoints == 0) }
+{
+    !inst.wave.checkpoints.is_empty()
+}
+
+ghost use Rattle.std.specs.Prelude.{◌==◌, length, not};
+
+#[tactic(auto, unfolding(crate::specs::Force::is_pressed))]
+fn is_pressed(inst: &Inst, core: &Core) -> bool
+    ensures { result ≡ is_pressed inst.now core.now }
+{
+    inst.free_bytes() < 236 || has_due_block(inst, core)
+}
+
+#[tactic(auto, unfolding(crate::specs::Force::ends_by_force))]
+fn ends_by_force(inst: &Inst, core: &Core) -> bool
+    ensures { result ≡ ends_by_force inst.now core.now }
+{
+    has_begun(inst) || is_ready_but_forced(inst, core)
+}
+
+fn is_wanted(inst: &Inst, core: &Core) -> bool
+    ensures { result ≡ (is_awaited inst.now core.now || is_pressed inst.now core.now || ends_by_force inst.now core.now) }
+{
+    is_awaited(inst, core) || is_pressed(inst, core) || ends_by_force(inst, core)
+}
+
+ghost use Rattle.std.specs.Prelude.{◌||◌};
 
 /// Whether redo may be forced: some waits, and that is wanted.
 pub fn may_force(inst: &Inst, core: &Core) -> bool
     ensures { result ≡ may_force inst.now core.now }
 {
-    !inst.life.is_down() && !inst.is_forced() && wants_force(inst, core)
+    !inst.life.is_down() && !inst.is_forced() && is_wanted(inst, core)
 }
 
 // Appends what waits. Where that fails the instance asks for the length of its log.

@@ -162,6 +162,57 @@ fn install_read<D: SharedDisk>(
 
 ghost use Rattle.std.specs.Prelude.{true};
 
+fn install_granted<D: SharedDisk>(
+    alloc: Global,
+    inst: &mut Inst,
+    core: &mut Core,
+    disk: &mut D,
+    block: BlockNo,
+    grant: u64,
+    mode: Mode,
+    from_disk: bool,
+) -> Result<Installed, NoMemory>
+    ensures part { IfOk result (λ how. inst.new ≡ granted inst.old block grant mode from_disk how) }
+    ensures core { IfOk result (λ how. core.new ≡ grant_told inst.old core.old block grant mode from_disk how) }
+    ensures disk { IfOk result (λ how. InstallsAs (Some (Grant block grant mode from_disk)) how (D.state disk.old) (D.state disk.new)) }
+{
+    if from_disk {
+        install_read(alloc, inst, core, disk, block, grant, mode)
+    } else {
+        install_held(inst, core, block, grant, mode)?;
+        Ok(Installed::Calm)
+    }
+}
+
+fn install_message<D: SharedDisk>(
+    alloc: Global,
+    inst: &mut Inst,
+    core: &mut Core,
+    disk: &mut D,
+    message: Message,
+) -> Result<Installed, NoMemory>
+    ensures part { IfOk result (λ how. inst.new ≡ brought inst.old (Some message) how) }
+    ensures core { IfOk result (λ how. core.new ≡ brought_core inst.old core.old (Some message) how) }
+    ensures disk { IfOk result (λ how. InstallsAs (Some message) how (D.state disk.old) (D.state disk.new)) }
+{
+    let Message::Shipped(shipment) = message else {
+        let Message::Grant {
+            block,
+            grant,
+            mode,
+            from_disk,
+        } = message
+        else {
+            return Ok(Installed::Calm);
+        };
+        return install_granted(alloc, inst, core, disk, block, grant, mode, from_disk);
+    };
+    install_shipped(inst, core, shipment)?;
+    Ok(Installed::Calm)
+}
+
+ghost use Rattle.disk_steps.specs.Install.{brought, brought_core};
+
 /// The current image that is first on the link from an instance is installed, or the block that is granted there: as it is
 /// held, or with the disk's image. Where that can't be read the instance ends.
 ///
@@ -182,41 +233,5 @@ pub fn install<D: SharedDisk>(
     let Some(packet) = hear(inst, core, from, Lane::Main) else {
         return Ok(Installed::Calm);
     };
-    match packet.message {
-        Message::Shipped(shipment) => {
-            install_shipped(inst, core, shipment)?;
-            Ok(Installed::Calm)
-        }
-        Message::Grant {
-            block,
-            grant,
-            mode,
-            from_disk,
-        } => {
-            if from_disk {
-                install_read(alloc, inst, core, disk, block, grant, mode)
-            } else {
-                install_held(inst, core, block, grant, mode)?;
-                Ok(Installed::Calm)
-            }
-        }
-        Message::Ask { .. }
-        | Message::CopyTo { .. }
-        | Message::ShareTo { .. }
-        | Message::ShipTo { .. }
-        | Message::Invalidate { .. }
-        | Message::Copy { .. }
-        | Message::Gone { .. }
-        | Message::Done { .. }
-        | Message::GaveUp { .. }
-        | Message::Back(_)
-        | Message::Wrote { .. }
-        | Message::WritePlease { .. }
-        | Message::DropPast { .. }
-        | Message::NeedUndo { .. }
-        | Message::UndoIs { .. }
-        | Message::Commit { .. }
-        | Message::Heard { .. }
-        | Message::Bucket { .. } => Ok(Installed::Calm),
-    }
+    install_message(alloc, inst, core, disk, packet.message)
 }

@@ -15,7 +15,5 @@ pub use crashes::{Kept, crash};
 pub use forces::{force, may_force};
 pub use installs::{Installed, install, may_install};
 pub use positions::{end_checkpoint, may_end_checkpoint, with_made};
-pub use undo_asks::{
-    AskedUndo, Lacking, ask_undo, ask_undo_dead, may_ask_undo, may_ask_undo_dead,
-};
+pub use undo_asks::{AskedUndo, Lacking, ask_undo, ask_undo_dead, may_ask_undo, may_ask_undo_dead};
 pub use writing::{Target, is_due, may_write_block, redo_is_durable, write_due};

@@ -3,14 +3,13 @@
 ghost use Rattle.std.specs.Prelude.{◌≡◌, ◌==◌, not, nat_le, filter, fold, IfOk, OnOk, slice_index_or, None};
 ghost use Rattle.std.specs.List.{list_any};
 ghost use Rattle.std.specs.Option.{option_copied};
-ghost use Rattle.control_image.specs.Entry.{entry_bytes};
 ghost use Rattle.disk_calls.specs.Calls.{WritesControlAs};
 ghost use Rattle.inst_state.specs.declared.inst.Begun.{Begun};
 ghost use Rattle.inst_state.specs.declared.inst.Made.{Made};
 ghost use Rattle.image_steps.specs.AskWrite.{past_version};
-ghost use Rattle.disk_steps.specs.Checkpoint.{checkpoint_ended, checkpoint_told, checkpointed, entry_now, is_past_left, is_ready, is_ready_if, may_end_checkpoint, position_now, same_version, scns_now, waits_for_none, with_made, with_made_before};
+ghost use Rattle.disk_steps.specs.Checkpoint.{bytes_of_entry, checkpoint_ended, checkpoint_told, checkpointed, entry_now, is_past_left, is_ready, is_ready_if, may_end_checkpoint, position_now, same_version, scns_now, waits_for_none, with_made, with_made_before};
 
-use base_types::{BlockNo, NoMemory, RedoAt, Scn};
+use base_types::{BlockNo, InstNo, NoMemory, RedoAt, Scn};
 use control_image::{ControlEntry, ThreadStatus};
 use disk_calls::{Written, write_control};
 use inst_loss::{Loss, lose};
@@ -20,11 +19,19 @@ use rac_disk::SharedDisk;
 use scn_clock::Clock;
 use std::alloc::Global;
 
+fn some_waits(waits: &[bool]) -> bool
+    ensures { result ≡ list_any (λ (waited : Bool). waited) waits.now }
+{
+    waits.iter().any(|waited| *waited)
+}
+
 fn waits_for_none(waits: &[bool]) -> bool
     ensures { result ≡ waits_for_none waits.now }
 {
-    !waits.iter().any(|waited| *waited)
+    !some_waits(waits)
 }
+
+ghost use Rattle.std.specs.Prelude.{Bool};
 
 fn same_version(one: Option<u64>, other: Option<u64>) -> bool
     ensures { result ≡ same_version one other }
@@ -64,9 +71,7 @@ ghost use Rattle.std.specs.List.{range_with_len};
 fn is_ready(inst: &Inst, begun: &Begun) -> bool
     ensures { result ≡ is_ready inst.now begun.now }
 {
-    waits_for_none(&begun.blocks)
-        && waits_for_none(&begun.segment)
-        && !some_past_left(inst, begun)
+    waits_for_none(&begun.blocks) && waits_for_none(&begun.segment) && !some_past_left(inst, begun)
 }
 
 fn begun_of(inst: &Inst, line: u32) -> Option<&Begun>
@@ -190,6 +195,16 @@ fn note_end(alloc: Global, inst: &mut Inst, line: u32) -> Result<(), NoMemory>
     Ok(())
 }
 
+#[tactic(auto, unfolding(crate::specs::Checkpoint::bytes_of_entry))]
+fn write_entry<D: SharedDisk>(disk: &mut D, me: InstNo, entry: &ControlEntry) -> Written
+    requires { me < 8 }
+    ensures { WritesControlAs me (bytes_of_entry entry.now) result (D.state disk.old) (D.state disk.new) }
+{
+    write_control(disk, me, &entry.write())
+}
+
+ghost use Rattle.std.specs.Prelude.{◌<◌};
+
 /// A line's checkpoint ends: the control entry is written, and how that went is returned. Where it failed the instance ends.
 ///
 /// # Errors
@@ -204,10 +219,10 @@ pub fn end_checkpoint<D: SharedDisk>(
 ) -> Result<Written, NoMemory>
     ensures part { IfOk result (λ how. inst.new ≡ checkpointed inst.old line how) }
     ensures core { IfOk result (λ how. core.new ≡ checkpoint_told inst.old core.old line how) }
-    ensures disk { IfOk result (λ how. WritesControlAs inst.old.plan.me (entry_bytes (entry_now inst.old)) how (D.state disk.old) (D.state disk.new)) }
+    ensures disk { IfOk result (λ how. WritesControlAs inst.old.plan.me (bytes_of_entry (entry_now inst.old)) how (D.state disk.old) (D.state disk.new)) }
 {
     let entry = entry_now(inst);
-    let how = write_control(disk, inst.plan.me, &entry.write());
+    let how = write_entry(disk, inst.plan.me, &entry);
     match how {
         Written::Done => {
             note_end(alloc, inst, line)?;

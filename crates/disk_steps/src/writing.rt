@@ -40,7 +40,9 @@ fn has_block(block: BlockNo, segment: &Segment) -> bool
 fn adopted_with(segments: &[Segment], block: BlockNo) -> Option<usize>
     ensures { result ≡ position (has_block block) segments.now }
 {
-    segments.iter().position(|segment| has_block(block, segment))
+    segments
+        .iter()
+        .position(|segment| has_block(block, segment))
 }
 
 fn target_of(inst: &Inst, block: BlockNo) -> Target
@@ -204,9 +206,7 @@ fn undo_is_durable(inst: &Inst, segment: &Segment, block: BlockNo) -> bool
     ensures { result ≡ undo_is_durable inst.now segment.now (place_in segment.now block) }
 {
     match place_in(segment, block) {
-        Some(k) => {
-            inst.is_forced() || scn_at(segment, k) <= inst.thread.durable_scn().get()
-        }
+        Some(k) => { inst.is_forced() || scn_at(segment, k) <= inst.thread.durable_scn().get() }
         None => false,
     }
 }
