@@ -5,11 +5,13 @@
 #![tactic(auto)]
 
 mod recovering;
+mod reopening;
 mod reporting;
 mod taking;
 
 pub use recovering::{
     all_closed, are_read, are_rebuilt, is_dead, is_read, is_rebuilt, is_to_rebuild, leads_recovery,
 };
+pub use reopening::{is_ready_but_forced, may_reopen, may_resume, reopen, resume};
 pub use reporting::{give, may_give, may_report, report};
 pub use taking::take_over;
