@@ -2,3 +2,4 @@ pub mod Found
 pub mod Numbers
 pub mod Places
 pub mod Records
+pub mod Told

@@ -1,5 +1,5 @@
 -- An instance reports what it has, and hands a past image to the leader.
-use Rattle.std.specs.Prelude.{ℕ, ◌&&◌, not, Bool, true, false, List, ◌++◌, length, filter_map, map, Option, None, Some, is_none}
+use Rattle.std.specs.Prelude.{◌≡◌, ℕ, ◌&&◌, not, Bool, true, false, List, ◌++◌, length, filter_map, map, Option, None, Some, is_none}
 use Rattle.std.specs.List.{list_all, range_with_len}
 use Rattle.std.specs.Option.{option_map, option_to_list}
 use Rattle.block_image.specs.Block.{BlockContent}
@@ -13,7 +13,7 @@ use Rattle.buffer_cache.specs.declared.place.Current.{Current}
 use Rattle.buffer_cache.specs.Cache.{forgets, place_at}
 use Rattle.recovery.specs.Base.{newest_past}
 use Rattle.recovery.specs.Members.{all_reported}
-use Rattle.recovery.specs.Reports.{is_held, pasts_of, with_report}
+use Rattle.recovery.specs.Reports.{frame_of, is_held, pasts_of, with_report}
 use Rattle.inst_state.specs.declared.inst.Inst.{Inst}
 use Rattle.inst_state.specs.declared.session.Session.{Session}
 use Rattle.inst_state.specs.declared.shared.Core.{Core}
@@ -43,22 +43,26 @@ may_report n core =
     is_live core n.plan.me && is_frozen core.members.phase && not (has core.members.reported n.plan.me) && is_settled n
 
 -- what is told of a block by its current image and by the version of its past image; nothing without either
-abbrev pub frame_of : ℕ → Option Current → Option ℕ → Option Frame
-frame_of block (Some now) past =
+abbrev pub frame_by : ℕ → Option Current → Option ℕ → Option Frame
+frame_by block (Some now) past =
     Some (record { block = block; mode = now.mode; version = now.image.front.version; dirty = now.dirty; past = past })
-frame_of block None None = None
-frame_of block None (Some past) =
+frame_by block None None = None
+frame_by block None (Some past) =
     Some (record { block = block; mode = Null; version = 0; dirty = false; past = Some past })
 
 -- what an instance tells of a block, if it has an image of it
 abbrev pub frame_at : Inst → ℕ → Option Frame
 frame_at n block =
     let place = place_at n.cache block in
-    frame_of block place.current (option_map (λ past. past.image.front.version) place.past)
+    frame_by block place.current (option_map (λ past. past.image.front.version) place.past)
 
 -- what an instance reports: its two clocks, and the images that it has
 abbrev pub report_by : Inst → Report
 report_by n = record { scn = n.clock.scn; known = n.clock.known; frames = filter_map (frame_at n) (all_blocks n) }
+
+-- What a report tells of each block is what its instance has of it.
+abbrev pub ReportTellsEachImage : Type 0
+ReportTellsEachImage = (n : Inst) (block : ℕ) → frame_of (Some (report_by n)) block ≡ frame_at n block
 
 -- A session forgets the copy that came for its statement, what was handed in for an image, and what it asked for.
 abbrev pub without_hand : Session → Session

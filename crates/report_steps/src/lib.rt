@@ -4,11 +4,13 @@
 //! Each step has a test, `may_..`, and a function that makes it where the test holds.
 #![tactic(auto)]
 
+mod laws;
 mod recovering;
 mod reopening;
 mod reporting;
 mod taking;
 
+pub use laws::a_report_tells_each_image;
 pub use recovering::{
     all_closed, are_read, are_rebuilt, is_dead, is_read, is_rebuilt, is_to_rebuild, leads_recovery,
 };
