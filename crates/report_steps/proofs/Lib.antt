@@ -2,4 +2,5 @@ pub mod Found
 pub mod Numbers
 pub mod Places
 pub mod Records
+pub mod TakenOver
 pub mod Told

@@ -1,5 +1,5 @@
 -- What a report tells of a block.
-use Rattle.std.proofs.Common.{◌≡◌, ◌<◌, ◌≤◌, ◌==◌, ℕ, ◌+◌, zero, suc, Bool, true, false, List, [], ◌∷◌, filter_map, find, length, Option, None, Some, if◌then◌else◌, ap, sym, ◌∙◌, refl, arith}
+use Rattle.std.proofs.Common.{◌≡◌, ◌<◌, ◌≤◌, ◌==◌, ℕ, ◌+◌, zero, suc, Bool, true, false, List, filter_map, find, length, Option, None, Some, if◌then◌else◌, ap, refl, arith}
 use Rattle.std.specs.List.{cons_option, range_with_len}
 use Rattle.std.specs.Option.{option_map, option_or}
 use Rattle.std.proofs.lemmas.List.{get_or_past}
@@ -56,7 +56,7 @@ told_among n block a (suc m) from before =
     let one = one_at n block a (filter_map (frame_at n) (range_with_len (a + 1) m)) in
     let behind : block < a + 1 → find (is_of block) (filter_map (frame_at n) (range_with_len (a + 1) m)) ≡ None = not_behind n block (a + 1) m in
     let later : a + 1 ≤ block → find (is_of block) (filter_map (frame_at n) (range_with_len (a + 1) m)) ≡ frame_at n block =
-        λ above. told_among n block (a + 1) m above (omega arith) in
+    λ above. told_among n block (a + 1) m above (omega arith) in
     grind arith
 
 -- there is nothing of a block that there isn't
@@ -69,8 +69,8 @@ pub told : (n : Inst) (block : ℕ) → find (is_of block) (filter_map (frame_at
 told n block =
     let len = length n.cache.places in
     let found : block < len → find (is_of block) (filter_map (frame_at n) (range_with_len 0 len)) ≡ frame_at n block =
-        λ within. told_among n block 0 len (omega arith) (omega arith) in
+    λ within. told_among n block 0 len (omega arith) (omega arith) in
     let none : len ≤ block → find (is_of block) (filter_map (frame_at n) (range_with_len 0 len)) ≡ None =
-        λ past. not_before n block 0 len (omega arith) in
+    λ past. not_before n block 0 len (omega arith) in
     let nothing : len ≤ block → frame_at n block ≡ None = none_past n block in
     grind arith

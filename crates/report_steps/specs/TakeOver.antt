@@ -1,5 +1,5 @@
 -- An instance takes over what a Thaw has made of the reports: its directory, its grants and the roles of its images.
-use Rattle.std.specs.Prelude.{ℕ, ◌==◌, if◌then◌else◌, filter_map, length, map, List, Option, None, Some, replicate, unwrap_or}
+use Rattle.std.specs.Prelude.{◌≡◌, ◌<◌, ℕ, ◌==◌, if◌then◌else◌, false, filter_map, length, map, List, Option, None, Some, replicate, unwrap_or}
 use Rattle.std.specs.List.{range_with_len}
 use Rattle.std.specs.Option.{option_map}
 use Rattle.inst_set.specs.Sets.{all_insts}
@@ -18,6 +18,7 @@ use Rattle.recovery.specs.Reports.{has_past, report_of}
 use Rattle.inst_state.specs.declared.inst.Inst.{Inst}
 use Rattle.inst_state.specs.declared.inst.Mastering.{Mastering}
 use Rattle.inst_state.specs.declared.shared.Core.{Core}
+use Rattle.inst_state.specs.Hand.{current_image}
 use Rattle.inst_state.specs.Shared.{rebuilt_of}
 
 -- what an instance reported, if it did, with its number
@@ -76,3 +77,12 @@ taken_over n core = record n {
   cache = if n.mastering.taken == core.members.epoch then n.cache else thawed_cache n.plan.me core n.cache;
   mastering = if n.mastering.taken == core.members.epoch then n.mastering else thawed_mastering n.plan.me core;
 }
+
+-- An instance that hasn't taken over yet has of each block afterwards what the Thaw has made of it.
+abbrev pub TakeOverMeetsEachBlock : Type 0
+TakeOverMeetsEachBlock = (n : Inst) (core : Core) (block : ℕ) → (n.mastering.taken == core.members.epoch) ≡ false → block < length n.cache.places
+    → place_at (taken_over n core).cache block ≡ thawed n.plan.me core block (place_at n.cache block)
+
+-- The current images stay as they are.
+abbrev pub TakeOverKeepsImages : Type 0
+TakeOverKeepsImages = (n : Inst) (core : Core) (block : ℕ) → current_image (taken_over n core) block ≡ current_image n block
