@@ -1,0 +1,4 @@
+pub mod Allowed
+pub mod Choices
+pub mod Moves
+pub mod Needs

@@ -1,0 +1,6 @@
+pub mod Found
+pub mod Numbers
+pub mod Places
+pub mod Records
+pub mod TakenOver
+pub mod Told

@@ -1,0 +1,4 @@
+pub mod Recovering
+pub mod Reopen
+pub mod Report
+pub mod TakeOver
