@@ -1,0 +1,6 @@
+pub mod Entries
+pub mod Found
+pub mod Kinds
+pub mod Observes
+pub mod Records
+pub mod Versions
