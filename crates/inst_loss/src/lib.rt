@@ -2,9 +2,9 @@
 #![tactic(auto)]
 
 mod ends;
-mod loss;
+mod losing;
 mod parts;
 mod refusals;
 
 pub use ends::Loss;
-pub use loss::lose;
+pub use losing::lose;

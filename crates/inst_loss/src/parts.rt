@@ -45,7 +45,7 @@ pub(crate) fn lose_sessions(alloc: Global, sessions: &mut Table<Session>)
     lose_each(alloc, sessions.as_mut_slice());
 }
 
-fn idle(begun: &mut Begun)
+fn make_idle(begun: &mut Begun)
     ensures { begun.new ≡ idle_checkpoint begun.old }
 {
     begun.blocks = [false; 64];
@@ -57,7 +57,7 @@ fn idle_each(checkpoints: &mut [Begun])
     ensures { checkpoints.new ≡ map idle_checkpoint checkpoints.old }
 {
     for begun in checkpoints.iter_mut() {
-        idle(begun);
+        make_idle(begun);
     }
 }
 

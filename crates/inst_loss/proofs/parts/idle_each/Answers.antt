@@ -4,7 +4,7 @@ use Rattle.inst_loss.proofs.parts.idle_each.Goals as goal
 
 pub loop-begun-preserved : goal.loop-begun-preserved
 loop-begun-preserved c =
-    rw c.idle.ensures
+    rw c.make_idle.ensures
     (mapped_more
     idle_checkpoint
     c.args.checkpoints.now
