@@ -1,5 +1,5 @@
 -- What was found of a thread, from its records to its entry.
-use Rattle.std.proofs.Common.{◌≡◌, ℕ, ◌<◌, ◌^◌, Bool, true, false, not, inl, inr, List, Result, Ok, Err, IfOk, refl, sym, ap, subst, ◌∙◌}
+use Rattle.std.proofs.Common.{◌≡◌, ℕ, Bool, true, false, not, inr, List, Result, Ok, Err, IfOk, refl, sym, ap, subst, ◌∙◌}
 use Rattle.base_types.specs.declared.layout.Layout.{Layout}
 use Rattle.redo_types.specs.declared.redo.Redo.{Redo}
 use Rattle.control_image.specs.declared.entry.ControlEntry.{ControlEntry}

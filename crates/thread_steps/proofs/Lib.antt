@@ -2,5 +2,6 @@ pub mod FoundWhole
 pub mod LogPieces
 pub mod Naming
 pub mod Observing
+pub mod Tests
 pub mod Versioned
 pub mod WholeRecords

@@ -1,8 +1,8 @@
 -- Calls that only read, one after the other.
-use Rattle.std.proofs.Common.{◌≡◌, ◌≤◌, ◌∙◌, Bool, true, false, Option, None, Some, IfSome, Result, Ok, Err, refl, sym, subst, ap}
+use Rattle.std.proofs.Common.{◌≤◌, ◌∙◌, Bool, true, false, Option, None, Some, Result, Ok, Err, subst, ap}
 use Rattle.rac_io.specs.Counts.{Rose}
 use Rattle.rac_disk.specs.Content.{Content}
-use Rattle.rac_disk.specs.State.{HadFault, IsCalm, Leaves, Nothing, Reads, State, WhereTold}
+use Rattle.rac_disk.specs.State.{IsCalm, Leaves, Nothing, Reads, State, WhereTold}
 use Rattle.undo_segment.specs.Load.{Keeps}
 use Rattle.undo_segment.proofs.LoadLemmas.{calm_more, calm_self, keeps_more, keeps_self, told_always, told_before, told_weaker}
 use Rattle.thread_steps.specs.Observes.{Counts, Observes}

@@ -1,12 +1,12 @@
 -- The whole records of a log's bytes.
-use Rattle.std.proofs.Common.{◌≡◌, ℕ, ◌-◌, ◌≤◌, inl, inr, true, false, All, List, [], ◌∷◌, ◌++◌, length, refl, ap, ◌∙◌, arith}
+use Rattle.std.proofs.Common.{◌≡◌, ℕ, ◌-◌, ◌≤◌, inl, inr, true, false, All, List, [], ◌++◌, length, refl, ap, ◌∙◌, arith}
 use Rattle.std.proofs.lemmas.List.{append-nil}
 use Rattle.std.proofs.lemmas.List.Elements.{recursion_from_All}
 use Rattle.redo_types.specs.declared.redo.Redo.{Redo}
 use Rattle.redo_record.specs.Front.{BeginsWith, IsTorn, log_bytes}
 use Rattle.redo_record.specs.Redo.{IsRedo}
 use Rattle.log_history.proofs.LogLemmas.{log_at_end, place_is}
-use Rattle.thread_steps.specs.Records.{AreRecords, HasRecords}
+use Rattle.thread_steps.specs.Records.{HasRecords}
 use Rattle.thread_steps.specs.declared.records.Records.{Records}
 
 -- the log ends with a record cut short

@@ -12,8 +12,6 @@ use Rattle.scn_clock.specs.declared.clock.Clock.{Clock}
 use Rattle.scn_clock.specs.Clock.{learnt, raised}
 use Rattle.control_image.specs.declared.entry.ControlEntry.{ControlEntry}
 use Rattle.control_image.specs.declared.entry.ThreadStatus.TheVariants as status
-use Rattle.inst_state.specs.declared.inst.ReadThread.{ReadThread}
-use Rattle.thread_steps.specs.declared.found.BlockVersion.{BlockVersion}
 use Rattle.thread_steps.specs.declared.found.Found.{Found}
 use Rattle.thread_steps.specs.declared.found.Found.TheVariants.{Closed, Stopped, Unread, Whole}
 use Rattle.thread_steps.specs.declared.found.FoundLog.{FoundLog}

@@ -1,6 +1,6 @@
-use Rattle.std.proofs.Common.{◌≡◌, List, ℕ, subst}
-use Rattle.rac_disk.specs.Content.{Content, control_at}
-use Rattle.thread_steps.specs.Entries.{HasBadEntry, HasEntry, IsBadEntry, IsGoodEntry}
+use Rattle.std.proofs.Common.{◌≡◌, subst}
+use Rattle.rac_disk.specs.Content.{control_at}
+use Rattle.thread_steps.specs.Entries.{HasBadEntry, IsBadEntry}
 use Rattle.thread_steps.proofs.Observing.{observed, observes_weaker}
 use Rattle.thread_steps.proofs.entries.read_entry.Goals as goal
 

@@ -1,4 +1,4 @@
-use Rattle.std.proofs.Common.{◌≡◌, ◌∙◌, ap, Bool, subst, sym}
+use Rattle.std.proofs.Common.{◌∙◌, ap, Bool, subst, sym}
 use Rattle.thread_steps.specs.Found.{AreGood, HoldsRecords, VersionsAs, are_small}
 use Rattle.thread_steps.specs.Records.{AreRecords}
 use Rattle.thread_steps.proofs.FoundWhole.{found_weaker, not_false, records_hold}

@@ -1,5 +1,5 @@
 use Rattle.std.proofs.Common.{◌≡◌, ◌+◌, ◌-◌, ◌++◌, ◌∙◌, false, length, min, take, drop, ℕ, List, ap, sym, subst}
-use Rattle.rac_disk.specs.Content.{Content, log_at}
+use Rattle.rac_disk.specs.Content.{log_at}
 use Rattle.thread_steps.proofs.LogPieces.{AreFirst, one_piece_more, whole_piece}
 use Rattle.thread_steps.proofs.Observing.{observed, observes_more}
 use Rattle.thread_steps.proofs.logs.read_log.Goals as goal

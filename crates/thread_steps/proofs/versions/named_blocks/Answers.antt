@@ -1,4 +1,4 @@
-use Rattle.std.proofs.Common.{◌≡◌, ◌<◌, ◌∙◌, All, List, ℕ, arith, subst, sym}
+use Rattle.std.proofs.Common.{◌<◌, ◌∙◌, All, List, ℕ, arith, subst, sym}
 use Rattle.std.proofs.lemmas.List.Elements.{All-push}
 use Rattle.thread_steps.specs.Versions.{is_named}
 use Rattle.thread_steps.proofs.Naming.{named_no, named_yes}
