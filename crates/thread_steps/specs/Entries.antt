@@ -5,11 +5,7 @@ use Rattle.control_image.specs.declared.entry.ControlEntry.{ControlEntry}
 use Rattle.control_image.specs.Entry.{IsEntry, entry_bytes}
 use Rattle.scn_clock.specs.declared.clock.Clock.{Clock}
 use Rattle.rac_disk.specs.Content.{Content, control_at}
-use Rattle.disk_calls.specs.Images as images
-
--- No run comes near what an SCN or a place in a log must be below.
-abbrev pub is_small : ℕ → Bool
-is_small n = images.is_small n
+use Rattle.disk_calls.specs.Images.{is_small}
 
 -- The numbers of an entry are such that a run may have come to them.
 abbrev pub has_small_numbers : ControlEntry → Bool

@@ -15,8 +15,8 @@ use Rattle.control_image.specs.declared.entry.ThreadStatus.TheVariants as status
 use Rattle.thread_steps.specs.declared.found.Found.{Found}
 use Rattle.thread_steps.specs.declared.found.Found.TheVariants.{Closed, Stopped, Unread, Whole}
 use Rattle.thread_steps.specs.declared.found.FoundLog.{FoundLog}
-use Rattle.thread_steps.specs.declared.unread.Unread.{Unread as Why}
-use Rattle.thread_steps.specs.declared.unread.Unread.TheVariants as why
+use Rattle.thread_steps.specs.declared.read_error.ReadError.{ReadError}
+use Rattle.thread_steps.specs.declared.read_error.ReadError.TheVariants as why
 use Rattle.thread_steps.specs.Entries.{HasBadEntry, HasEntry, scns_of}
 use Rattle.thread_steps.specs.Observes.{Observes}
 use Rattle.thread_steps.specs.Records.{AreRecords, has_small_scn, log_from}
@@ -97,10 +97,10 @@ RunsAs layout thread entry (Unread bad) it = bad ≡ false
 RunsAs layout thread entry found it = HoldsRecords layout thread entry (log_from thread entry.position it) found it
 
 -- what is found where nothing of a log was read
-abbrev pub UnreadFor : Why → Found → Type 0
-UnreadFor why.Failed found = found ≡ Unread false
-UnreadFor why.Bad found = found ≡ Unread true
-UnreadFor why.NoMemory found = ⊥
+abbrev pub FoundFor : ReadError → Found → Type 0
+FoundFor why.Failed found = found ≡ Unread false
+FoundFor why.Bad found = found ≡ Unread true
+FoundFor why.NoMemory found = ⊥
 
 -- Nothing was read of a thread since a call failed, or since its control entry is bad
 abbrev pub IsUnread : ℕ → Bool → Content → Type 0

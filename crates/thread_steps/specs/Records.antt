@@ -10,7 +10,7 @@ use Rattle.log_history.specs.Logs.{IsEnd}
 use Rattle.thread_steps.specs.declared.records.Met.{Met}
 use Rattle.thread_steps.specs.declared.records.Met.TheVariants.{Bad, Torn, Whole}
 use Rattle.thread_steps.specs.declared.records.Records.{Records}
-use Rattle.thread_steps.specs.Entries.{is_small}
+use Rattle.disk_calls.specs.Images.{is_small}
 
 -- the bytes of a thread's log from a place on
 abbrev pub log_from : ℕ → ℕ → Content → List ℕ

@@ -1,15 +1,17 @@
 //! The control entry of a dead thread.
 
 ghost use Rattle.std.specs.Prelude.{◌≡◌, ◌<◌, ◌^◌, IfOk, IfSome, MatchOption};
-ghost use Rattle.thread_steps.specs.Entries.{HasBadEntry, HasEntry, IsBadEntry, IsGoodEntry, has_small_numbers, is_small, scns_of};
+ghost use Rattle.disk_calls.specs.Images.{is_small};
+ghost use Rattle.thread_steps.specs.Entries.{HasBadEntry, HasEntry, IsBadEntry, IsGoodEntry, has_small_numbers, scns_of};
 ghost use Rattle.thread_steps.specs.Observes.{Finds};
 
-use crate::unread::Unread;
+use crate::read_error::ReadError;
 use base_types::InstNo;
 use control_image::ControlEntry;
 use rac_disk::SharedDisk;
 use scn_clock::Clock;
 
+/// Whether a number is one that a run may come to, as an SCN or as a place in a log.
 pub(crate) fn is_small(number: u64) -> bool
     ensures { result ≡ is_small number }
 {
@@ -55,7 +57,7 @@ pub(crate) fn scns_of(entry: &ControlEntry) -> Clock
 pub(crate) fn read_entry<D: SharedDisk>(
     thread: InstNo,
     disk: &mut D,
-) -> Result<ControlEntry, Unread>
+) -> Result<ControlEntry, ReadError>
     requires { thread < 8 }
     ensures position { IfOk result (λ entry. entry.position < 2 ^ 62) }
     ensures disk { Finds (HasEntry thread) (HasBadEntry thread) result (D.state disk.old) (D.state disk.new) }
@@ -64,6 +66,6 @@ pub(crate) fn read_entry<D: SharedDisk>(
     disk.read_control(thread, &mut bytes)?;
     match entry_in(&bytes) {
         Some(entry) => Ok(entry),
-        None => Err(Unread::Bad),
+        None => Err(ReadError::Bad),
     }
 }

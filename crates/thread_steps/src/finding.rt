@@ -5,15 +5,15 @@ ghost use Rattle.std.specs.List.{list_all};
 ghost use Rattle.control_image.specs.declared.entry.ThreadStatus.TheVariants.{Running};
 ghost use Rattle.redo_record.specs.Front.{log_bytes};
 ghost use Rattle.thread_steps.specs.Entries.{has_small_numbers, scns_of};
-ghost use Rattle.thread_steps.specs.Found.{FindsThread, HoldsRecords, RunsAs, UnreadFor, VersionsAs, fails, found_log, is_end, with_redo};
+ghost use Rattle.thread_steps.specs.Found.{FindsThread, HoldsRecords, RunsAs, FoundFor, VersionsAs, fails, found_log, is_end, with_redo};
 ghost use Rattle.thread_steps.specs.Observes.{Observes};
 ghost use Rattle.thread_steps.specs.Records.{AreRecords, has_small_scn};
 
 use crate::entries::{read_entry, scns_of};
 use crate::found::{Found, FoundLog};
 use crate::logs::read_log;
+use crate::read_error::ReadError;
 use crate::records::{Records, have_small_scns, records_in};
-use crate::unread::Unread;
 use crate::versions::{named_blocks, read_versions};
 use base_types::{InstNo, Layout, NoMemory};
 use control_image::{ControlEntry, ThreadStatus};
@@ -81,9 +81,9 @@ fn find_versions<D: SharedDisk>(
     let blocks = named_blocks(alloc, log.read.records.as_slice())?;
     match read_versions(alloc, layout, blocks.as_slice(), disk) {
         Ok(versions) => Ok(Found::Whole { log, versions }),
-        Err(Unread::Failed) => Ok(Found::Stopped { log, bad: false }),
-        Err(Unread::Bad) => Ok(Found::Stopped { log, bad: true }),
-        Err(Unread::NoMemory) => Err(NoMemory),
+        Err(ReadError::Failed) => Ok(Found::Stopped { log, bad: false }),
+        Err(ReadError::Bad) => Ok(Found::Stopped { log, bad: true }),
+        Err(ReadError::NoMemory) => Err(NoMemory),
     }
 }
 
@@ -109,13 +109,13 @@ fn find_records<D: SharedDisk>(
 }
 
 // Nothing of a log was read.
-fn unread(why: Unread) -> Result<Found, NoMemory>
-    ensures { IfOk result (UnreadFor why) }
+fn unread(why: ReadError) -> Result<Found, NoMemory>
+    ensures { IfOk result (FoundFor why) }
 {
     match why {
-        Unread::Failed => Ok(Found::Unread { bad: false }),
-        Unread::Bad => Ok(Found::Unread { bad: true }),
-        Unread::NoMemory => Err(NoMemory),
+        ReadError::Failed => Ok(Found::Unread { bad: false }),
+        ReadError::Bad => Ok(Found::Unread { bad: true }),
+        ReadError::NoMemory => Err(NoMemory),
     }
 }
 

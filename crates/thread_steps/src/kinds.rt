@@ -7,7 +7,7 @@ use base_types::{BlockNo, InstNo, Layout};
 
 /// What a block is laid out for.
 #[derive(Clone, Copy, Debug, PartialEq, Eq)]
-pub enum BlockKind {
+pub(crate) enum BlockKind {
     Data,
     /// The header of an undo segment.
     Head(InstNo),
@@ -30,7 +30,7 @@ fn segment_part(at: u16, len: u16) -> BlockKind
 }
 
 /// What a block is laid out for.
-pub fn kind_of(layout: &Layout, block: BlockNo) -> BlockKind
+pub(crate) fn kind_of(layout: &Layout, block: BlockNo) -> BlockKind
     requires { block < 200 }
     ensures { result ≡ kind_of layout.now block }
 {

@@ -8,13 +8,12 @@ mod finding;
 mod found;
 mod kinds;
 mod logs;
+mod read_error;
 mod reads;
 mod records;
 mod taking;
-mod unread;
 mod versions;
 
 pub use closes::{Closing, close_thread, may_close};
 pub use found::{BlockVersion, Found, FoundLog};
-pub use kinds::{BlockKind, kind_of};
 pub use reads::{may_read, read_thread};

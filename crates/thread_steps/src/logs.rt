@@ -4,7 +4,7 @@ ghost use Rattle.std.specs.Prelude.{◌≡◌, ◌<◌, ◌^◌, length, IfOk};
 ghost use Rattle.thread_steps.specs.Observes.{Finds};
 ghost use Rattle.thread_steps.specs.Records.{GivesLog, IsNoLog};
 
-use crate::unread::Unread;
+use crate::read_error::ReadError;
 use base_types::{InstNo, NoMemory};
 use rac_disk::SharedDisk;
 use std::alloc::Global;
@@ -22,7 +22,7 @@ pub(crate) fn read_log<D: SharedDisk>(
     thread: InstNo,
     position: u64,
     disk: &mut D,
-) -> Result<Vec<u8>, Unread>
+) -> Result<Vec<u8>, ReadError>
     requires thread { thread < 8 }
     requires position { position < 2 ^ 62 }
     ensures { Finds (GivesLog thread position) IsNoLog result (D.state disk.old) (D.state disk.new) }
@@ -37,5 +37,5 @@ pub(crate) fn read_log<D: SharedDisk>(
         }
         bytes.extend_from_slice(&piece.as_slice()[..count])?;
     }
-    Err(Unread::NoMemory)
+    Err(ReadError::NoMemory)
 }

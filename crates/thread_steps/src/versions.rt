@@ -10,7 +10,7 @@ ghost use Rattle.thread_steps.specs.Versions.{HasBadOne, HasDataVersion, HasHead
 
 use crate::found::BlockVersion;
 use crate::kinds::{BlockKind, kind_of};
-use crate::unread::Unread;
+use crate::read_error::ReadError;
 use base_types::{BlockNo, InstNo, Layout, NoMemory, Sequence};
 use block_image::DataBlock;
 use disk_calls::{load_data, load_head, load_undo};
@@ -89,7 +89,7 @@ fn undo_version(undo: &UndoBlock) -> u64
     undo.version()
 }
 
-fn load_data_version<D: SharedDisk>(block: BlockNo, disk: &mut D) -> Result<u64, Unread>
+fn load_data_version<D: SharedDisk>(block: BlockNo, disk: &mut D) -> Result<u64, ReadError>
     requires { block < 200 }
     ensures { Finds (HasDataVersion block) (HasNoData block) result (D.state disk.old) (D.state disk.new) }
 {
@@ -101,7 +101,7 @@ fn load_head_version<D: SharedDisk>(
     block: BlockNo,
     seg: InstNo,
     disk: &mut D,
-) -> Result<u64, Unread>
+) -> Result<u64, ReadError>
     requires { block < 200 }
     ensures { Finds (HasHeadVersion block seg) (HasNoHead block seg) result (D.state disk.old) (D.state disk.new) }
 {
@@ -113,7 +113,7 @@ fn load_undo_version<D: SharedDisk>(
     block: BlockNo,
     seg: InstNo,
     disk: &mut D,
-) -> Result<u64, Unread>
+) -> Result<u64, ReadError>
     requires { block < 200 }
     ensures { Finds (HasUndoVersion block seg) (HasNoUndo block seg) result (D.state disk.old) (D.state disk.new) }
 {
@@ -122,7 +122,11 @@ fn load_undo_version<D: SharedDisk>(
 }
 
 /// The version that a block has on the disk.
-fn load_version<D: SharedDisk>(layout: &Layout, block: BlockNo, disk: &mut D) -> Result<u64, Unread>
+fn load_version<D: SharedDisk>(
+    layout: &Layout,
+    block: BlockNo,
+    disk: &mut D,
+) -> Result<u64, ReadError>
     requires { block < 200 }
     ensures { Finds (HasVersion layout.now block) (HasNoVersion layout.now block) result (D.state disk.old) (D.state disk.new) }
 {
@@ -139,7 +143,7 @@ pub(crate) fn read_versions<D: SharedDisk>(
     layout: &Layout,
     blocks: &[BlockNo],
     disk: &mut D,
-) -> Result<Table<BlockVersion>, Unread>
+) -> Result<Table<BlockVersion>, ReadError>
     requires { All (λ block. block < 200) blocks.now }
     ensures { Finds (HaveVersions layout.now blocks.now) (HasBadOne layout.now blocks.now) result (D.state disk.old) (D.state disk.new) }
 {
