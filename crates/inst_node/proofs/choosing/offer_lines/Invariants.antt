@@ -6,4 +6,4 @@ use Rattle.inst_node.specs.Choices.{offer}
 use Rattle.inst_node.proofs.choosing.offer_lines.Given as goal
 
 abbrev pub invariant-loop-control : goal.invariant-loop-control
-invariant-loop-control l = l.out ≡ l.fn.out ++ flat_map (λ (control : Control). offer l.inst l.core (Line l.kind control.line)) (take l.control-index l.controls)
+invariant-loop-control l = l.out ≡ l.fn.out ++ flat_map (λ (control : Control). offer l.me l.inst l.core (Line l.kind control.line)) (take l.control-index l.controls)

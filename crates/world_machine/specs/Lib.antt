@@ -1,0 +1,3 @@
+pub mod Enabled
+pub mod Machine
+pub mod Runs

@@ -1,0 +1,11 @@
+//! The world: all instances and what they share, and runs of it. Each step of a run is a due crash, or is picked by the next
+//! random word among those that may be made.
+#![tactic(auto)]
+
+mod insts;
+mod runs;
+mod worlds;
+
+pub use insts::Insts;
+pub use runs::{Book, Ran, run};
+pub use worlds::World;
