@@ -1,6 +1,7 @@
 -- How far a recovery has come: which threads are dead, which of them were read, and which blocks are to be rebuilt.
-use Rattle.std.specs.Prelude.{ℕ, ◌==◌, ◌&&◌, ◌||◌, if◌then◌else◌, nat_lt, not, Bool, List, [], map, is_none, None, slice_index_or, unwrap_or}
+use Rattle.std.specs.Prelude.{◌≡◌, ◌<◌, ℕ, ◌==◌, ◌&&◌, ◌||◌, if◌then◌else◌, nat_lt, not, Bool, true, false, List, [], map, is_none, None, slice_index_or, unwrap_or}
 use Rattle.std.specs.List.{list_all, list_any, range_with_len}
+use Rattle.base_types.specs.Layout.{IsLayout, total_of}
 use Rattle.inst_set.specs.Sets.{all_insts, has}
 use Rattle.redo_merge.specs.declared.tagged.Tagged.{Tagged}
 use Rattle.redo_merge.specs.declared.tagged.ThreadRedo.{ThreadRedo}
@@ -63,3 +64,14 @@ is_rebuilt n core block = is_of_epoch n core && list_any (λ other. other == blo
 -- Each block that is to be rebuilt is; no disk has more than 200 blocks.
 abbrev pub are_rebuilt : Inst → Core → Bool
 are_rebuilt n core = list_all (λ block. not (is_to_rebuild n core block) || is_rebuilt n core block) (range_with_len 0 200)
+
+-- What is seen of all threads and blocks holds of each: the instances are at most eight, and the blocks at most 200.
+pub record IsSeenWhole (n : Inst) (core : Core) : Type 0 where
+  pub read : are_read n core ≡ true → (thread : ℕ) → is_dead core thread ≡ true → is_read n core thread ≡ true
+  pub closed : all_closed core ≡ true → (thread : ℕ) → is_dead core thread ≡ false
+  pub rebuilt : are_rebuilt n core ≡ true → (block : ℕ) → block < total_of core.layout → is_to_rebuild n core block ≡ true
+      → is_rebuilt n core block ≡ true
+
+-- So it is wherever a disk is laid out.
+abbrev pub RecoveryIsSeenWhole : Type 0
+RecoveryIsSeenWhole = (n : Inst) (core : Core) → IsLayout core.layout → IsSeenWhole n core

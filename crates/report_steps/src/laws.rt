@@ -1,3 +1,4 @@
+ghost use Rattle.report_steps.specs.Recovering.{RecoveryIsSeenWhole};
 ghost use Rattle.report_steps.specs.Report.{ReportTellsEachImage};
 ghost use Rattle.report_steps.specs.TakeOver.{TakeOverKeepsImages, TakeOverMeetsEachBlock};
 
@@ -14,4 +15,9 @@ pub fn a_take_over_meets_each_block()
 /// A law: a take-over keeps each current image.
 pub fn a_take_over_keeps_images()
     ensures { TakeOverKeepsImages }
+{}
+
+/// A law: what is seen to be read, closed or rebuilt as a whole is so of each dead thread, and of each block of the disk.
+pub fn a_recovery_is_seen_whole()
+    ensures { RecoveryIsSeenWhole }
 {}

@@ -10,7 +10,10 @@ mod reopening;
 mod reporting;
 mod taking;
 
-pub use laws::{a_report_tells_each_image, a_take_over_keeps_images, a_take_over_meets_each_block};
+pub use laws::{
+    a_recovery_is_seen_whole, a_report_tells_each_image, a_take_over_keeps_images,
+    a_take_over_meets_each_block,
+};
 pub use recovering::{
     all_closed, are_read, are_rebuilt, is_dead, is_read, is_rebuilt, is_to_rebuild, leads_recovery,
 };
