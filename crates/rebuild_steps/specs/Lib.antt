@@ -1,1 +1,3 @@
+pub mod Epochs
 pub mod Images
+pub mod Recover

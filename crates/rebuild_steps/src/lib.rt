@@ -1,6 +1,10 @@
 //! The steps by which an instance recovers what others have lost, and by which instances join.
 #![tactic(auto)]
 
+mod epochs;
 mod images;
+mod recovers;
 
+pub use epochs::begin_epoch;
 pub use images::{Image, Kind, kind_of, load_image};
+pub use recovers::{Recovered, recover_block};

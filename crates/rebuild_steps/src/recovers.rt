@@ -1,0 +1,150 @@
+//! The leader rebuilds a block.
+
+ghost use Rattle.std.specs.Prelude.{◌≡◌, ◌<◌, IfOk, OnOk};
+ghost use Rattle.std.specs.Option.{option_copied};
+ghost use Rattle.rebuild_steps.specs.Recover.{RebuildsAs, RecoversAs, WritesAs, noted, noted_core, recovered, recovered_core, redo_read};
+
+use crate::epochs::{begin_epoch, redo_of, threads_in};
+use crate::images::{Image, load_image};
+use base_types::{BlockNo, Layout, NoMemory, Sequence};
+use block_image::DataBlock;
+use disk_calls::{Written, write_block};
+use inst_loss::{Loss, lose};
+use inst_state::{Core, Inst, Rebuilt};
+use rac_disk::SharedDisk;
+use redo_merge::Tagged;
+use std::alloc::Global;
+use std::snapshot::Snapshot;
+use undo_segment::LoadError;
+
+/// How the rebuild of a block went.
+#[derive(Drop)]
+pub enum Recovered {
+    /// The block stood so on the disk, and what the redo makes of it, with this version, was written.
+    Done(Snapshot<Image>, u64),
+    /// The block stood so on the disk, and the write of what the redo makes of it failed.
+    Unwritten(Snapshot<Image>),
+    /// The block stood so on the disk, and the redo doesn't fit it.
+    Unrolled(Snapshot<Image>),
+    /// What stood on the disk is no block that a run leaves there.
+    Bad,
+    /// The read failed.
+    Unread,
+}
+
+// What redo makes of the image of a block that stands on the disk is written, where it makes something.
+fn write_made<D: SharedDisk>(
+    disk: &mut D,
+    block: BlockNo,
+    stood: Snapshot<Image>,
+    made: Option<Image>,
+) -> Recovered
+    requires { block < 200 }
+    ensures { WritesAs block made stood.value result (D.state disk.old) (D.state disk.new) }
+{
+    match made {
+        Some(image) => match write_block(disk, block, &image.bytes()) {
+            Written::Done => Recovered::Done(stood, image.version()),
+            Written::Failed => Recovered::Unwritten(stood),
+        },
+        None => Recovered::Unrolled(stood),
+    }
+}
+
+// Reads a block and writes what redo makes of it.
+fn rebuild<D: SharedDisk>(
+    layout: &Layout,
+    block: BlockNo,
+    past: Option<&DataBlock>,
+    redo: &[Tagged],
+    disk: &mut D,
+) -> Result<Recovered, NoMemory>
+    requires { block < 200 }
+    ensures { IfOk result (λ how. RebuildsAs layout.now block redo.now (option_copied past.entry) how (D.state disk.old) (D.state disk.new)) }
+{
+    match load_image(layout, block, disk) {
+        Ok(image) => {
+            let stood = Snapshot::of(&image);
+            Ok(write_made(disk, block, stood, image.rebuilt(past, redo)))
+        }
+        Err(LoadError::Failed) => Ok(Recovered::Unread),
+        Err(LoadError::Bad { .. }) => Ok(Recovered::Bad),
+        Err(LoadError::NoMemory) => Err(NoMemory),
+    }
+}
+
+// The records that the leader has read since the last change of membership, in the order in which they were made.
+fn redo_read(alloc: Global, inst: &Inst, core: &Core) -> Result<Sequence<Tagged>, NoMemory>
+    ensures { IfOk result (λ redo. redo ≡ redo_read inst.now core.now) }
+{
+    redo_of(
+        alloc,
+        threads_in(&inst.leading.recovering, core.members.epoch),
+    )
+}
+
+fn note(
+    alloc: Global,
+    inst: &mut Inst,
+    core: &mut Core,
+    block: BlockNo,
+    version: u64,
+) -> Result<(), NoMemory>
+    ensures part { OnOk result (inst.new ≡ noted inst.old core.old block) }
+    ensures core { OnOk result (core.new ≡ noted_core core.old block version) }
+{
+    begin_epoch(alloc, &mut inst.leading.recovering, core.members.epoch)?;
+    inst.leading.recovering.rebuilt.push(block)?;
+    core.recovery.rebuilt.push(Rebuilt { block, version })
+}
+
+// What the rebuild of a block leaves in memory.
+fn settle(
+    alloc: Global,
+    inst: &mut Inst,
+    core: &mut Core,
+    block: BlockNo,
+    how: &Recovered,
+) -> Result<(), NoMemory>
+    ensures part { OnOk result (inst.new ≡ recovered inst.old core.old block how.now) }
+    ensures core { OnOk result (core.new ≡ recovered_core inst.old core.old block how.now) }
+{
+    match how {
+        Recovered::Done(_, version) => note(alloc, inst, core, block, *version),
+        Recovered::Unwritten(_) => lose(alloc, inst, core, Loss::Ended { bad: false }, Some(0)),
+        Recovered::Unrolled(_) => lose(alloc, inst, core, Loss::Ended { bad: true }, Some(0)),
+        Recovered::Bad => lose(alloc, inst, core, Loss::Ended { bad: true }, Some(0)),
+        Recovered::Unread => lose(alloc, inst, core, Loss::Ended { bad: false }, Some(0)),
+    }
+}
+
+/// The leader rebuilds a block: of the disk's image and the past image that was handed to it the newer one is rolled forward
+/// by the records that it has read, and written. Where a call of the disk failed, or what stands there is such that no run
+/// leaves it, the instance ends.
+///
+/// # Errors
+///
+/// There is no memory for the records, for what is noted of them, or for the loss of the instance.
+pub fn recover_block<D: SharedDisk>(
+    alloc: Global,
+    inst: &mut Inst,
+    core: &mut Core,
+    disk: &mut D,
+    block: BlockNo,
+) -> Result<Recovered, NoMemory>
+    requires { block < 200 }
+    ensures part { IfOk result (λ how. inst.new ≡ recovered inst.old core.old block how) }
+    ensures core { IfOk result (λ how. core.new ≡ recovered_core inst.old core.old block how) }
+    ensures disk { IfOk result (λ how. RecoversAs inst.old core.old block how (D.state disk.old) (D.state disk.new)) }
+{
+    let redo = redo_read(alloc, inst, core)?;
+    let how = rebuild(
+        &core.layout,
+        block,
+        core.given_of(block),
+        redo.as_slice(),
+        disk,
+    )?;
+    settle(alloc, inst, core, block, &how)?;
+    Ok(how)
+}
