@@ -1,10 +1,10 @@
 -- What the leader has read and done since the last change of membership.
 use Rattle.std.specs.Prelude.{ℕ, ◌==◌, if◌then◌else◌, List, [], map, Option, None, replicate}
 use Rattle.redo_merge.specs.declared.tagged.Tagged.{Tagged}
-use Rattle.redo_merge.specs.declared.tagged.ThreadRedo.{ThreadRedo}
 use Rattle.redo_merge.specs.Merge.{merged}
 use Rattle.inst_state.specs.declared.inst.ReadThread.{ReadThread}
 use Rattle.inst_state.specs.declared.inst.Recovering.{Recovering}
+use Rattle.report_steps.specs.Recovering.{redo_of}
 
 -- these, if what was read belongs to this epoch, and else those
 abbrev pub if_in_epoch : {A : Type 0} → Recovering → ℕ → A → A → A
@@ -23,10 +23,6 @@ in_epoch r epoch = record {
   rebuilt = if_in_epoch r epoch r.rebuilt [];
 }
 
--- the records that were read of a thread
-abbrev pub thread_redo : ReadThread → ThreadRedo
-thread_redo read = record { thread = read.thread; records = read.records }
-
 -- the records that were read of these threads, in the order in which they were made
-abbrev pub redo_of : List ReadThread → List Tagged
-redo_of threads = merged (map thread_redo threads)
+abbrev pub merged_redo : List ReadThread → List Tagged
+merged_redo threads = merged (map redo_of threads)

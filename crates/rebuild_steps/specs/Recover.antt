@@ -1,5 +1,5 @@
 -- The leader rebuilds a block.
-use Rattle.std.specs.Prelude.{◌≡◌, ℕ, Bool, true, false, List, [], ◌∷◌, ◌++◌, Option, None, Some, Ok, Err}
+use Rattle.std.specs.Prelude.{◌≡◌, ℕ, ◌&&◌, ◌||◌, nat_lt, not, Bool, true, false, List, [], ◌∷◌, ◌++◌, Option, None, Some, is_some, Ok, Err}
 use Rattle.std.specs.Option.{option_map}
 use Rattle.base_types.specs.declared.layout.Layout.{Layout}
 use Rattle.block_image.specs.Block.{BlockContent}
@@ -19,15 +19,33 @@ use Rattle.inst_state.specs.Shared.{given_of}
 use Rattle.inst_loss.specs.declared.ends.Loss.TheVariants.{Ended}
 use Rattle.inst_loss.specs.Lost.{lost}
 use Rattle.inst_loss.specs.LostCore.{lost_core}
+use Rattle.recovery.specs.Reports.{has_past}
+use Rattle.report_steps.specs.Recovering.{are_read, is_rebuilt, is_to_rebuild, leads_recovery}
 use Rattle.rebuild_steps.specs.declared.images.Image.{Image}
 use Rattle.rebuild_steps.specs.declared.recovers.Recovered.{Recovered}
 use Rattle.rebuild_steps.specs.declared.recovers.Recovered.TheVariants.{Bad, Done, Unread, Unrolled, Unwritten}
-use Rattle.rebuild_steps.specs.Epochs.{in_epoch, redo_of, threads_in}
+use Rattle.rebuild_steps.specs.Epochs.{in_epoch, merged_redo, threads_in}
 use Rattle.rebuild_steps.specs.Images.{LoadsImage, bytes_of, rolled_from, version_of}
+
+-- The disk has a block with this number.
+abbrev pub is_on_disk : ℕ → Bool
+is_on_disk block = nat_lt block 200
+
+-- The newest past image of a block was handed to the leader, where one was reported.
+abbrev pub is_given : Core → ℕ → Bool
+is_given core block =
+    not (nat_lt block core.layout.blocks && has_past core.recovery.reports block) || is_some (given_of core block)
+
+-- The leader rebuilds a block that is to be rebuilt and isn't yet, once each dead thread was read and the newest past image
+-- of the block was handed to it.
+abbrev pub may_recover : Inst → Core → ℕ → Bool
+may_recover n core block =
+    is_on_disk block && leads_recovery n core && are_read n core && is_to_rebuild n core block
+    && not (is_rebuilt n core block) && is_given core block
 
 -- the records that the leader has read since the last change of membership, in the order in which they were made
 abbrev pub redo_read : Inst → Core → List Tagged
-redo_read n core = redo_of (threads_in n.leading.recovering core.members.epoch)
+redo_read n core = merged_redo (threads_in n.leading.recovering core.members.epoch)
 
 -- An image was made of a block, and its write went so.
 pub record WritesMade (block : ℕ) (made : Option Image) (how : Written) (old new : State) : Type 0 where

@@ -2,7 +2,8 @@
 
 ghost use Rattle.std.specs.Prelude.{◌≡◌, ◌++◌, IfOk, OnOk, map};
 ghost use Rattle.redo_merge.specs.Merge.{merged};
-ghost use Rattle.rebuild_steps.specs.Epochs.{in_epoch, redo_of, threads_in, thread_redo};
+ghost use Rattle.rebuild_steps.specs.Epochs.{in_epoch, merged_redo, threads_in};
+ghost use Rattle.report_steps.specs.Recovering.{redo_of};
 
 use base_types::{NoMemory, Sequence};
 use inst_state::{ReadThread, Recovering, Table};
@@ -56,8 +57,8 @@ fn copy_redo(alloc: Global, records: &[Redo]) -> Result<Sequence<Redo>, NoMemory
     Ok(copied)
 }
 
-fn thread_redo(alloc: Global, read: &ReadThread) -> Result<ThreadRedo, NoMemory>
-    ensures { IfOk result (λ redo. redo ≡ thread_redo read.now) }
+fn redo_of(alloc: Global, read: &ReadThread) -> Result<ThreadRedo, NoMemory>
+    ensures { IfOk result (λ redo. redo ≡ redo_of read.now) }
 {
     Ok(ThreadRedo {
         thread: read.thread,
@@ -66,18 +67,21 @@ fn thread_redo(alloc: Global, read: &ReadThread) -> Result<ThreadRedo, NoMemory>
 }
 
 fn redo_of_each(alloc: Global, threads: &[ReadThread]) -> Result<Vec<ThreadRedo>, NoMemory>
-    ensures { IfOk result (λ all. all.items ≡ map thread_redo threads.now) }
+    ensures { IfOk result (λ all. all.items ≡ map redo_of threads.now) }
 {
     let mut all = Vec::new(alloc);
     for read in threads {
-        all.push(thread_redo(alloc, read)?)?;
+        all.push(redo_of(alloc, read)?)?;
     }
     Ok(all)
 }
 
 // The records of these threads, in the order in which they were made.
-pub(crate) fn redo_of(alloc: Global, threads: &[ReadThread]) -> Result<Sequence<Tagged>, NoMemory>
-    ensures { IfOk result (λ all. all ≡ redo_of threads.now) }
+pub(crate) fn merged_redo(
+    alloc: Global,
+    threads: &[ReadThread],
+) -> Result<Sequence<Tagged>, NoMemory>
+    ensures { IfOk result (λ all. all ≡ merged_redo threads.now) }
 {
     let threads = redo_of_each(alloc, threads)?;
     merge(alloc, threads.as_slice())

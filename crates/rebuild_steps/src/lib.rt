@@ -7,4 +7,4 @@ mod recovers;
 
 pub use epochs::begin_epoch;
 pub use images::{Image, Kind, kind_of, load_image};
-pub use recovers::{Recovered, recover_block};
+pub use recovers::{Recovered, may_recover, recover_block};

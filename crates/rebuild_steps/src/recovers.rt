@@ -1,10 +1,10 @@
 //! The leader rebuilds a block.
 
-ghost use Rattle.std.specs.Prelude.{◌≡◌, ◌<◌, IfOk, OnOk};
+ghost use Rattle.std.specs.Prelude.{◌≡◌, ◌<◌, true, IfOk, OnOk};
 ghost use Rattle.std.specs.Option.{option_copied};
-ghost use Rattle.rebuild_steps.specs.Recover.{RebuildsAs, RecoversAs, WritesAs, noted, noted_core, recovered, recovered_core, redo_read};
+ghost use Rattle.rebuild_steps.specs.Recover.{RebuildsAs, RecoversAs, WritesAs, noted, noted_core, is_given, is_on_disk, may_recover, recovered, recovered_core, redo_read};
 
-use crate::epochs::{begin_epoch, redo_of, threads_in};
+use crate::epochs::{begin_epoch, merged_redo, threads_in};
 use crate::images::{Image, load_image};
 use base_types::{BlockNo, Layout, NoMemory, Sequence};
 use block_image::DataBlock;
@@ -13,6 +13,7 @@ use inst_loss::{Loss, lose};
 use inst_state::{Core, Inst, Rebuilt};
 use rac_disk::SharedDisk;
 use redo_merge::Tagged;
+use report_steps::{are_read, is_rebuilt, is_to_rebuild, leads_recovery};
 use std::alloc::Global;
 use std::snapshot::Snapshot;
 use undo_segment::LoadError;
@@ -30,6 +31,34 @@ pub enum Recovered {
     Bad,
     /// The read failed.
     Unread,
+}
+
+// Whether the disk has a block with this number.
+fn is_on_disk(block: BlockNo) -> bool
+    ensures { result ≡ is_on_disk block }
+{
+    block.get() < 200
+}
+
+// Whether the newest past image of a block was handed to the leader, where one was reported.
+fn is_given(core: &Core, block: BlockNo) -> bool
+    ensures { result ≡ is_given core.now block }
+{
+    !(block.get() < core.layout.blocks && core.recovery.reports.has_past(block))
+        || core.given_of(block).is_some()
+}
+
+/// Whether the leader may rebuild a block: it is to be rebuilt and isn't yet, each dead thread was read, and the newest past
+/// image of the block was handed to the leader.
+pub fn may_recover(inst: &Inst, core: &Core, block: BlockNo) -> bool
+    ensures { result ≡ may_recover inst.now core.now block }
+{
+    is_on_disk(block)
+        && leads_recovery(inst, core)
+        && are_read(inst, core)
+        && is_to_rebuild(inst, core, block)
+        && !is_rebuilt(inst, core, block)
+        && is_given(core, block)
 }
 
 // What redo makes of the image of a block that stands on the disk is written, where it makes something.
@@ -77,7 +106,7 @@ fn rebuild<D: SharedDisk>(
 fn redo_read(alloc: Global, inst: &Inst, core: &Core) -> Result<Sequence<Tagged>, NoMemory>
     ensures { IfOk result (λ redo. redo ≡ redo_read inst.now core.now) }
 {
-    redo_of(
+    merged_redo(
         alloc,
         threads_in(&inst.leading.recovering, core.members.epoch),
     )
@@ -132,7 +161,7 @@ pub fn recover_block<D: SharedDisk>(
     disk: &mut D,
     block: BlockNo,
 ) -> Result<Recovered, NoMemory>
-    requires { block < 200 }
+    requires { may_recover inst.old core.old block ≡ true }
     ensures part { IfOk result (λ how. inst.new ≡ recovered inst.old core.old block how) }
     ensures core { IfOk result (λ how. core.new ≡ recovered_core inst.old core.old block how) }
     ensures disk { IfOk result (λ how. RecoversAs inst.old core.old block how (D.state disk.old) (D.state disk.new)) }
