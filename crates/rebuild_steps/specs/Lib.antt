@@ -1,3 +1,5 @@
 pub mod Epochs
 pub mod Images
+pub mod Join
+pub mod Open
 pub mod Recover

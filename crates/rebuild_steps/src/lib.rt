@@ -3,8 +3,12 @@
 
 mod epochs;
 mod images;
+mod joins;
+mod opens;
 mod recovers;
 
 pub use epochs::begin_epoch;
 pub use images::{Image, Kind, kind_of, load_image};
+pub use joins::{Joined, join, may_join};
+pub use opens::Opened;
 pub use recovers::{Recovered, may_recover, recover_block};
