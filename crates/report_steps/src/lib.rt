@@ -5,7 +5,9 @@
 #![tactic(auto)]
 
 mod recovering;
+mod reporting;
 
 pub use recovering::{
     all_closed, are_read, are_rebuilt, is_dead, is_read, is_rebuilt, is_to_rebuild, leads_recovery,
 };
+pub use reporting::{give, may_give, may_report, report};
