@@ -6,8 +6,10 @@
 
 mod recovering;
 mod reporting;
+mod taking;
 
 pub use recovering::{
     all_closed, are_read, are_rebuilt, is_dead, is_read, is_rebuilt, is_to_rebuild, leads_recovery,
 };
 pub use reporting::{give, may_give, may_report, report};
+pub use taking::take_over;
