@@ -21,9 +21,8 @@ use Rattle.inst_state.specs.declared.inst.Life.TheVariants.{Joining}
 use Rattle.inst_state.specs.declared.shared.Core.{Core}
 use Rattle.inst_state.specs.declared.shared.Recovery.{Recovery}
 use Rattle.inst_state.specs.Shared.{is_dark, is_live, is_running, open_control}
-use Rattle.inst_loss.specs.declared.ends.Loss.TheVariants.{Ended}
 use Rattle.inst_loss.specs.Lost.{lost}
-use Rattle.inst_loss.specs.LostCore.{lost_core}
+use Rattle.rebuild_steps.specs.Ends.{ended}
 use Rattle.rebuild_steps.specs.declared.joins.Joined.{Joined}
 use Rattle.rebuild_steps.specs.declared.joins.Joined.TheVariants.{Bad, Dark, Read, Unread}
 use Rattle.rebuild_steps.specs.declared.opens.Opened.{Opened}
@@ -120,10 +119,6 @@ with_segment n own scns how = opened (record n { segment = own }) scns how
 -- Where the thread of an instance runs it has come in, else it has ended.
 abbrev pub read_in : Inst → SegmentState → Clock → Opened → Inst
 read_in n own scns how = if is_open how then with_segment n own scns how else lost (with_segment n own scns how)
-
--- the shared part once an instance has ended by a fault, or by content that no run leaves (`bad`)
-abbrev pub ended : Inst → Core → Bool → Core
-ended n core bad = lost_core n core (Ended bad) (Some 0)
 
 -- The membership changes where the thread of an instance runs, else it has ended.
 abbrev pub read_in_core : Inst → Core → SegmentState → Clock → Opened → Core

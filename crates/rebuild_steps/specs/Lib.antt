@@ -1,3 +1,6 @@
+pub mod Adopt
+pub mod Bound
+pub mod Ends
 pub mod Epochs
 pub mod Images
 pub mod Join

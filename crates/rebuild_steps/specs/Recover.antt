@@ -16,11 +16,10 @@ use Rattle.inst_state.specs.declared.shared.Core.{Core}
 use Rattle.inst_state.specs.declared.shared.Rebuilt.{Rebuilt}
 use Rattle.inst_state.specs.declared.shared.Recovery.{Recovery}
 use Rattle.inst_state.specs.Shared.{given_of}
-use Rattle.inst_loss.specs.declared.ends.Loss.TheVariants.{Ended}
 use Rattle.inst_loss.specs.Lost.{lost}
-use Rattle.inst_loss.specs.LostCore.{lost_core}
 use Rattle.recovery.specs.Reports.{has_past}
 use Rattle.report_steps.specs.Recovering.{are_read, is_rebuilt, is_to_rebuild, leads_recovery}
+use Rattle.rebuild_steps.specs.Ends.{ended}
 use Rattle.rebuild_steps.specs.declared.images.Image.{Image}
 use Rattle.rebuild_steps.specs.declared.recovers.Recovered.{Recovered}
 use Rattle.rebuild_steps.specs.declared.recovers.Recovered.TheVariants.{Bad, Done, Unread, Unrolled, Unwritten}
@@ -108,10 +107,6 @@ abbrev pub noted_core : Core → ℕ → ℕ → Core
 noted_core core block version = record core {
   recovery = record core.recovery { rebuilt = core.recovery.rebuilt ++ rebuilt_as block version ∷ [] };
 }
-
--- the shared part once an instance has ended by a fault, or by content that no run leaves (`bad`)
-abbrev pub ended : Inst → Core → Bool → Core
-ended n core bad = lost_core n core (Ended bad) (Some 0)
 
 -- the leader after the rebuild of a block, by how that went
 abbrev pub recovered : Inst → Core → ℕ → Recovered → Inst

@@ -7,9 +7,9 @@ ghost use Rattle.undo_segment.specs.Segment.{SegmentState};
 ghost use Rattle.rebuild_steps.specs.Join.{JoinsAs, LoadsOwn, OpensAfter, asks_start, came_in, came_in_core, dark_core, entered_core, forgotten, is_laid_out, is_open_to_joins, is_start_of, joined, joined_core, joining, line_number, may_join, read_in, read_in_core};
 ghost use Rattle.rebuild_steps.specs.Open.{scns_of};
 
+use crate::ends::end;
 use crate::opens::{Opened, is_open, open, scns_of, settle_open, settle_open_core};
 use base_types::{InstNo, Layout, NoMemory, Scn};
-use inst_loss::{Loss, lose};
 use inst_state::{Control, Core, Inst, Life, Recovery, Wanted};
 use rac_disk::SharedDisk;
 use scn_clock::Clock;
@@ -165,7 +165,7 @@ fn settle(
         enter(core, me);
         Ok(())
     } else {
-        lose(alloc, inst, core, Loss::Ended { bad: false }, Some(0))
+        end(alloc, inst, core, false)
     }
 }
 
@@ -191,11 +191,11 @@ fn come_in<D: SharedDisk>(
             Ok(Joined::Read(read, opened))
         }
         Err(LoadError::Failed) => {
-            lose(alloc, inst, core, Loss::Ended { bad: false }, Some(0))?;
+            end(alloc, inst, core, false)?;
             Ok(Joined::Unread)
         }
         Err(LoadError::Bad { .. }) => {
-            lose(alloc, inst, core, Loss::Ended { bad: true }, Some(0))?;
+            end(alloc, inst, core, true)?;
             Ok(Joined::Bad)
         }
         Err(LoadError::NoMemory) => Err(NoMemory),

@@ -1,6 +1,9 @@
 //! The steps by which an instance recovers what others have lost, and by which instances join.
 #![tactic(auto)]
 
+mod adopts;
+mod bounds;
+mod ends;
 mod epochs;
 mod images;
 mod joins;

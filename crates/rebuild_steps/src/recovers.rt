@@ -4,12 +4,12 @@ ghost use Rattle.std.specs.Prelude.{◌≡◌, ◌<◌, true, IfOk, OnOk};
 ghost use Rattle.std.specs.Option.{option_copied};
 ghost use Rattle.rebuild_steps.specs.Recover.{RebuildsAs, RecoversAs, WritesAs, noted, noted_core, is_given, is_on_disk, may_recover, recovered, recovered_core, redo_read};
 
+use crate::ends::end;
 use crate::epochs::{begin_epoch, merged_redo, threads_in};
 use crate::images::{Image, load_image};
 use base_types::{BlockNo, Layout, NoMemory, Sequence};
 use block_image::DataBlock;
 use disk_calls::{Written, write_block};
-use inst_loss::{Loss, lose};
 use inst_state::{Core, Inst, Rebuilt};
 use rac_disk::SharedDisk;
 use redo_merge::Tagged;
@@ -140,10 +140,10 @@ fn settle(
 {
     match how {
         Recovered::Done(_, version) => note(alloc, inst, core, block, *version),
-        Recovered::Unwritten(_) => lose(alloc, inst, core, Loss::Ended { bad: false }, Some(0)),
-        Recovered::Unrolled(_) => lose(alloc, inst, core, Loss::Ended { bad: true }, Some(0)),
-        Recovered::Bad => lose(alloc, inst, core, Loss::Ended { bad: true }, Some(0)),
-        Recovered::Unread => lose(alloc, inst, core, Loss::Ended { bad: false }, Some(0)),
+        Recovered::Unwritten(_) => end(alloc, inst, core, false),
+        Recovered::Unrolled(_) => end(alloc, inst, core, true),
+        Recovered::Bad => end(alloc, inst, core, true),
+        Recovered::Unread => end(alloc, inst, core, false),
     }
 }
 
