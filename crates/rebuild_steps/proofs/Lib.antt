@@ -1,2 +1,3 @@
 pub mod Layouts
 pub mod ReadSegments
+pub mod Restored

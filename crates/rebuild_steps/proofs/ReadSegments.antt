@@ -1,15 +1,15 @@
 -- Segments are read one behind the other.
-use Rattle.std.proofs.Common.{◌≡◌, ℕ, ◌+◌, ◌<◌, List, [], ◌∷◌, ◌++◌, length, map, take, get_or, rules, Option, Some, IfSome, Result, Ok, Err, refl, sym, subst, ap, ◌∙◌, arith}
+use Rattle.std.proofs.Common.{◌≡◌, ℕ, ◌+◌, ◌<◌, List, [], ◌∷◌, ◌++◌, length, take, get_or, rules, Ok, Err, refl, sym, subst, ap, ◌∙◌}
 use Rattle.std.specs.List.{All}
 use Rattle.std.proofs.lemmas.List.{get_or_read_under, map-append, take_more}
 use Rattle.std.proofs.lemmas.List.Elements.{All-append}
 use Rattle.base_types.specs.declared.layout.Layout.{Layout}
 use Rattle.rac_disk.specs.Content.{Content}
-use Rattle.rac_disk.specs.State.{IsCalm, State}
+use Rattle.rac_disk.specs.State.{State}
 use Rattle.undo_segment.specs.declared.error.LoadError.{LoadError}
-use Rattle.undo_segment.specs.Load.{HoldsSegment, IsBadBlock, Keeps, Loads}
+use Rattle.undo_segment.specs.Load.{HoldsSegment, IsBadBlock, Loads}
 use Rattle.undo_segment.specs.Segment.{SegmentState}
-use Rattle.undo_segment.proofs.LoadLemmas.{calm_more, calm_self, fails_more, keeps_more, keeps_self, told_always, told_before, told_weaker}
+use Rattle.undo_segment.proofs.LoadLemmas.{calm_more, fails_more, keeps_more, told_before, told_weaker}
 use Rattle.rebuild_steps.specs.Adopt.{FailsToRead, IsBadIn, ReadsEach, seg_of}
 use Rattle.rebuild_steps.specs.Join.{IsReadOf}
 

@@ -32,7 +32,7 @@ is_to_adopt n core seg =
     nat_lt seg core.layout.instances && is_down_segment n core seg && not (has_adopted n.leading.adopted seg)
 
 -- the instances whose segments the leader is to adopt, ascending
-abbrev pub to_adopt : Inst → Core → List ℕ
+unfoldable pub to_adopt : Inst → Core → List ℕ
 to_adopt n core = filter (is_to_adopt n core) all_insts
 
 -- the adopted segments with those that were read, ascending

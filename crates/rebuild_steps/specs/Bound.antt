@@ -1,5 +1,5 @@
 -- The clocks after recovery.
-use Rattle.std.specs.Prelude.{ℕ, List, fold, Option, None, Some}
+use Rattle.std.specs.Prelude.{ℕ, fold, Option, None, Some}
 use Rattle.inst_set.specs.Sets.{all_insts}
 use Rattle.scn_clock.specs.declared.clock.Clock.{Clock}
 use Rattle.wire_net.specs.declared.report.Report.{Report}
@@ -31,6 +31,6 @@ with_thread clock read = learnt_of clock read.scns
 
 -- The clocks after recovery: the leader's that has learnt of all that was reported, of the threads that are known to be
 -- closed, and of the threads that were read since the last change of membership.
-abbrev pub bound_of : Inst → Core → Clock
+unfoldable pub bound_of : Inst → Core → Clock
 bound_of n core =
     fold with_thread (fold (with_inst_of core) n.clock all_insts) (threads_in n.leading.recovering core.members.epoch)

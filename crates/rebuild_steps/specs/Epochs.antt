@@ -1,5 +1,5 @@
 -- What the leader has read and done since the last change of membership.
-use Rattle.std.specs.Prelude.{ℕ, ◌==◌, if◌then◌else◌, List, [], map, Option, None, replicate}
+use Rattle.std.specs.Prelude.{ℕ, ◌==◌, if◌then◌else◌, List, [], map, None, replicate}
 use Rattle.redo_merge.specs.declared.tagged.Tagged.{Tagged}
 use Rattle.redo_merge.specs.Merge.{merged}
 use Rattle.inst_state.specs.declared.inst.ReadThread.{ReadThread}

@@ -1,11 +1,11 @@
 -- The images of blocks, whatever stands in them.
-use Rattle.std.specs.Prelude.{◌≡◌, ℕ, ◌-◌, ◌/◌, ◌%◌, ◌==◌, if◌then◌else◌, nat_lt, Bool, true, false, List, Option, None, Some, Result}
+use Rattle.std.specs.Prelude.{◌≡◌, ℕ, ◌-◌, ◌/◌, ◌%◌, ◌==◌, if◌then◌else◌, nat_lt, Bool, false, List, Option, Some, Result}
 use Rattle.std.specs.Option.{option_map}
 use Rattle.base_types.specs.declared.layout.Layout.{Layout}
 use Rattle.base_types.specs.Layout.{segment_blocks}
 use Rattle.block_image.specs.Block.{BlockContent, block_bytes}
-use Rattle.undo_image.specs.Header.{HeaderContent, header_bytes}
-use Rattle.undo_image.specs.UndoBlock.{UndoContent, undo_bytes}
+use Rattle.undo_image.specs.Header.{header_bytes}
+use Rattle.undo_image.specs.UndoBlock.{undo_bytes}
 use Rattle.rac_disk.specs.Content.{block_at}
 use Rattle.rac_disk.specs.State.{State}
 use Rattle.redo_merge.specs.declared.tagged.Tagged.{Tagged}

@@ -6,3 +6,4 @@ pub mod Images
 pub mod Join
 pub mod Open
 pub mod Recover
+pub mod Thaw

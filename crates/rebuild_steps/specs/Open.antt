@@ -1,6 +1,5 @@
 -- An instance's thread is running again, from the end of its log.
-use Rattle.std.specs.Prelude.{ℕ, Bool, true, false, List, [], Option, None, Some, replicate, unwrap_or}
-use Rattle.base_types.specs.declared.names.Scn.{Scn}
+use Rattle.std.specs.Prelude.{ℕ, Bool, true, false, List, [], None, Some, replicate, unwrap_or}
 use Rattle.control_image.specs.declared.entry.ControlEntry.{ControlEntry}
 use Rattle.control_image.specs.declared.entry.ThreadStatus.TheVariants.{Running}
 use Rattle.control_image.specs.Entry.{entry_bytes}

@@ -10,11 +10,9 @@ use Rattle.disk_calls.specs.declared.writes.Written.TheVariants as write
 use Rattle.disk_calls.specs.declared.writes.Written.{Written}
 use Rattle.disk_calls.specs.Calls.{WritesBlockAs}
 use Rattle.inst_state.specs.declared.inst.Inst.{Inst}
-use Rattle.inst_state.specs.declared.inst.Leading.{Leading}
 use Rattle.inst_state.specs.declared.inst.Recovering.{Recovering}
 use Rattle.inst_state.specs.declared.shared.Core.{Core}
 use Rattle.inst_state.specs.declared.shared.Rebuilt.{Rebuilt}
-use Rattle.inst_state.specs.declared.shared.Recovery.{Recovery}
 use Rattle.inst_state.specs.Shared.{given_of}
 use Rattle.inst_loss.specs.Lost.{lost}
 use Rattle.recovery.specs.Reports.{has_past}

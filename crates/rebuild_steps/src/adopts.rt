@@ -61,6 +61,7 @@ fn to_adopt_of(
 ghost use Rattle.std.specs.Prelude.{filter};
 
 // The instances whose segments the leader is to adopt, ascending.
+#[tactic(auto, unfolding(crate::specs::Adopt::to_adopt))]
 pub(crate) fn to_adopt(alloc: Global, inst: &Inst, core: &Core) -> Result<Vec<InstNo>, NoMemory>
     ensures { IfOk result (λ segs. segs.items ≡ to_adopt inst.now core.now) }
 {

@@ -53,6 +53,7 @@ fn learn_threads(clock: &mut Clock, threads: &[ReadThread])
 }
 
 // The clocks after recovery.
+#[tactic(auto, unfolding(crate::specs::Bound::bound_of))]
 pub(crate) fn bound_of(inst: &Inst, core: &Core) -> Clock
     ensures { result ≡ bound_of inst.now core.now }
 {

@@ -56,7 +56,7 @@ fn is_open_to_joins(core: &Core) -> bool
 }
 
 // Whether this is how a disk is laid out.
-fn is_laid_out(layout: &Layout) -> bool
+pub(crate) fn is_laid_out(layout: &Layout) -> bool
     ensures test { result ≡ is_laid_out layout.now }
     ensures sound { result ≡ true → IsLayout layout.now }
 {

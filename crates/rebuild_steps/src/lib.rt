@@ -9,9 +9,11 @@ mod images;
 mod joins;
 mod opens;
 mod recovers;
+mod thaws;
 
 pub use epochs::begin_epoch;
 pub use images::{Image, Kind, kind_of, load_image};
 pub use joins::{Joined, join, may_join};
 pub use opens::Opened;
 pub use recovers::{Recovered, may_recover, recover_block};
+pub use thaws::{Thawed, may_thaw, thaw};
