@@ -1,3 +1,4 @@
+pub mod Entered
 pub mod FoundWhole
 pub mod LogPieces
 pub mod Naming

@@ -2,6 +2,7 @@ pub mod Close
 pub mod Entries
 pub mod Found
 pub mod Kinds
+pub mod Once
 pub mod Observes
 pub mod Read
 pub mod Records

@@ -2,7 +2,6 @@
 
 ghost use Rattle.std.specs.Prelude.{◌≡◌, ◌<◌, true, IfOk, OnOk, find};
 ghost use Rattle.std.specs.Option.{option_copied};
-ghost use Rattle.inst_state.specs.declared.inst.ReadThread.{ReadThread};
 ghost use Rattle.thread_steps.specs.Close.{ClosesLogAs, closed_core_as, closed_entry, is_all_rebuilt, is_of_thread, may_close, read_of, thread_closed, thread_closed_core, with_closing};
 
 use base_types::{InstNo, NoMemory, RedoAt, Scn};

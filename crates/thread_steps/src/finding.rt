@@ -1,13 +1,10 @@
 //! A dead thread is looked for on the disk.
 
-ghost use Rattle.std.specs.Prelude.{◌≡◌, ◌<◌, ◌+◌, ◌^◌, false, true, fold, length, IfOk};
-ghost use Rattle.std.specs.List.{list_all};
-ghost use Rattle.control_image.specs.declared.entry.ThreadStatus.TheVariants.{Running};
+ghost use Rattle.std.specs.Prelude.{◌≡◌, ◌<◌, ◌+◌, ◌^◌, fold, length, IfOk};
 ghost use Rattle.redo_record.specs.Front.{log_bytes};
-ghost use Rattle.thread_steps.specs.Entries.{has_small_numbers, scns_of};
-ghost use Rattle.thread_steps.specs.Found.{FindsThread, HoldsRecords, RunsAs, FoundFor, VersionsAs, fails, found_log, is_end, with_redo};
+ghost use Rattle.thread_steps.specs.Entries.{scns_of};
+ghost use Rattle.thread_steps.specs.Found.{FindsThread, FoundFor, HoldsRecords, RunsAs, VersionsAs, fails, found_log, is_end, with_redo};
 ghost use Rattle.thread_steps.specs.Observes.{Observes};
-ghost use Rattle.thread_steps.specs.Records.{AreRecords, has_small_scn};
 
 use crate::entries::{read_entry, scns_of};
 use crate::found::{Found, FoundLog};

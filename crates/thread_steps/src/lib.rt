@@ -7,6 +7,7 @@ mod entries;
 mod finding;
 mod found;
 mod kinds;
+mod laws;
 mod logs;
 mod read_error;
 mod reads;
@@ -16,4 +17,5 @@ mod versions;
 
 pub use closes::{Closing, close_thread, may_close};
 pub use found::{BlockVersion, Found, FoundLog};
+pub use laws::a_committed_enters_once;
 pub use reads::{may_read, read_thread};

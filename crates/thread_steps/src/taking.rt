@@ -1,6 +1,6 @@
 //! What was found of a dead thread is taken into memory.
 
-ghost use Rattle.std.specs.Prelude.{◌≡◌, None, OnOk, IfOk, fold, replicate, slice_set};
+ghost use Rattle.std.specs.Prelude.{◌≡◌, None, OnOk, IfOk, fold, replicate};
 ghost use Rattle.thread_steps.specs.Read.{in_epoch, thread_read, thread_read_core, with_found, with_version};
 
 use crate::entering::enter_records;

@@ -15,7 +15,9 @@ loop-piece-preserved g c =
     let as_long = c.read_log.auto.out ∙ ap length c.as_mut_slice.ensures.value in
     let whole = whole_piece out c.loop-piece.piece.items c.loop-piece.piece.len as_long c.loop-piece.piece.ok.0 in
     let here : at ≡ position + length bytes = ap (λ (n : ℕ). position + n) (c.len.ensures ∙ c.loop-piece.bytes.ok.0) in
-    let more = c.in_ok-extend_from_slice.ensures.items ∙ ap (λ (p : List ℕ). bytes ++ take count p) (c.as_slice.ensures.value ∙ whole) in
+    let piece : c.as_slice.result.now ≡ out = c.as_slice.ensures.value ∙ whole in
+    let more : c.extend_from_slice.new.self.items ≡ bytes ++ take count out =
+    subst (λ (p : List ℕ). c.extend_from_slice.new.self.items ≡ bytes ++ take count p) piece c.in_ok-extend_from_slice.ensures.items in
     record {
       room = ap length whole ∙ as_long ∙ c.loop-piece.invariant.room;
       read =
