@@ -1,6 +1,6 @@
 //! The leader adopts the segments of instances that aren't there.
 
-ghost use Rattle.std.specs.Prelude.{◌≡◌, ◌++◌, ◌<◌, All, IfErr, IfOk, OnOk};
+ghost use Rattle.std.specs.Prelude.{◌≡◌, ◌++◌, ◌<◌, All, IfErr, IfOk, OnOk, filter};
 ghost use Rattle.std.specs.List.{list_any};
 ghost use Rattle.base_types.specs.Layout.{IsLayout};
 ghost use Rattle.undo_segment.specs.Segment.{SegmentState};
@@ -57,8 +57,6 @@ fn to_adopt_of(
     }
     Ok(segs)
 }
-
-ghost use Rattle.std.specs.Prelude.{filter};
 
 // The instances whose segments the leader is to adopt, ascending.
 #[tactic(auto, unfolding(crate::specs::Adopt::to_adopt))]
