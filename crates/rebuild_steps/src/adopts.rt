@@ -1,9 +1,7 @@
 //! The leader adopts the segments of instances that aren't there.
 
 ghost use Rattle.std.specs.Prelude.{◌≡◌, ◌++◌, ◌<◌, All, IfErr, IfOk, OnOk, filter};
-ghost use Rattle.std.specs.List.{list_any};
 ghost use Rattle.base_types.specs.Layout.{IsLayout};
-ghost use Rattle.undo_segment.specs.Segment.{SegmentState};
 ghost use Rattle.redo_merge.specs.Merge.{sorted};
 ghost use Rattle.rebuild_steps.specs.Adopt.{FailsToRead, ReadsEach, adopted, has_adopted, is_down_segment, is_to_adopt, seg_of, to_adopt};
 

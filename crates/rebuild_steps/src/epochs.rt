@@ -1,7 +1,6 @@
 //! What the leader has read and done since the last change of membership.
 
-ghost use Rattle.std.specs.Prelude.{◌≡◌, ◌++◌, IfOk, OnOk, map, None, replicate};
-ghost use Rattle.redo_merge.specs.Merge.{merged};
+ghost use Rattle.std.specs.Prelude.{◌≡◌, IfOk, OnOk, map, None, replicate};
 ghost use Rattle.rebuild_steps.specs.Epochs.{in_epoch, merged_redo, threads_in};
 ghost use Rattle.report_steps.specs.Recovering.{redo_of};
 
