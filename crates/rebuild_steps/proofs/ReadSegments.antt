@@ -17,7 +17,7 @@ all_one : {X : Type 0} (P : X → Type 0) (x : X) → P x → All P (x ∷ [])
 all_one P x is = search (rules, is)
 
 -- one segment more is read
-pub one_more : (layout : Layout) (segs : List ℕ) (seg : ℕ) (owns : List SegmentState) (own : SegmentState) (old mid new : State) → ReadsEach layout segs owns old mid → IsReadOf layout seg own
+one_more : (layout : Layout) (segs : List ℕ) (seg : ℕ) (owns : List SegmentState) (own : SegmentState) (old mid new : State) → ReadsEach layout segs owns old mid → IsReadOf layout seg own
     → Loads HoldsSegment (IsBadBlock layout seg) (Ok own) mid new → ReadsEach layout (segs ++ seg ∷ []) (owns ++ own ∷ []) old new
 one_more layout segs seg owns own old mid new read is loads =
     let Held : List SegmentState → Content → Type 0 = λ all it. All (λ own. HoldsSegment own it) all in
@@ -43,5 +43,15 @@ fails layout segs front k seg owns why old mid new is within read loads =
     (λ b it bad. (k, within, subst (λ (s : ℕ). IsBadBlock layout s b it) same bad)) loads
 
 -- the items up to the next one
-pub take_item : (segs : List ℕ) (k seg : ℕ) → seg ≡ get_or segs k seg → k < length segs → take (k + 1) segs ≡ take k segs ++ seg ∷ []
+take_item : (segs : List ℕ) (k seg : ℕ) → seg ≡ get_or segs k seg → k < length segs → take (k + 1) segs ≡ take k segs ++ seg ∷ []
 take_item segs k seg is within = take_more segs k seg within ∙ ap (λ (s : ℕ). take k segs ++ s ∷ []) (sym is)
+
+-- the read of the segments goes on by one
+pub one_more_taken : (layout : Layout) (segs : List ℕ) (k seg : ℕ) (owns now : List SegmentState) (own : SegmentState) (old mid new : State) → seg ≡ get_or segs k seg → k < length segs
+    → ReadsEach layout (take k segs) owns old mid → now ≡ owns ++ own ∷ [] → IsReadOf layout seg own → Loads HoldsSegment (IsBadBlock layout seg) (Ok own) mid new
+    → ReadsEach layout (take (k + 1) segs) now old new
+one_more_taken layout segs k seg owns now own old mid new is within read is_now is_read loads =
+    let more : ReadsEach layout (take k segs ++ seg ∷ []) (owns ++ own ∷ []) old new =
+    one_more layout (take k segs) seg owns own old mid new read is_read loads in
+    subst (λ (l : List ℕ). ReadsEach layout l now old new) (sym (take_item segs k seg is within))
+    (subst (λ (l : List SegmentState). ReadsEach layout (take k segs ++ seg ∷ []) l old new) (sym is_now) more)

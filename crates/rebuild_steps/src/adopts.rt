@@ -1,9 +1,7 @@
 //! The leader adopts the segments of instances that aren't there.
 
-ghost use Rattle.std.specs.Prelude.{◌≡◌, ◌++◌, ◌<◌, All, IfErr, IfOk, OnOk};
-ghost use Rattle.std.specs.List.{list_any};
+ghost use Rattle.std.specs.Prelude.{◌≡◌, ◌++◌, ◌<◌, All, IfErr, IfOk, OnOk, filter};
 ghost use Rattle.base_types.specs.Layout.{IsLayout};
-ghost use Rattle.undo_segment.specs.Segment.{SegmentState};
 ghost use Rattle.redo_merge.specs.Merge.{sorted};
 ghost use Rattle.rebuild_steps.specs.Adopt.{FailsToRead, ReadsEach, adopted, has_adopted, is_down_segment, is_to_adopt, seg_of, to_adopt};
 
@@ -57,8 +55,6 @@ fn to_adopt_of(
     }
     Ok(segs)
 }
-
-ghost use Rattle.std.specs.Prelude.{filter};
 
 // The instances whose segments the leader is to adopt, ascending.
 #[tactic(auto, unfolding(crate::specs::Adopt::to_adopt))]

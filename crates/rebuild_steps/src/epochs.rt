@@ -1,7 +1,6 @@
 //! What the leader has read and done since the last change of membership.
 
-ghost use Rattle.std.specs.Prelude.{◌≡◌, ◌++◌, IfOk, OnOk, map};
-ghost use Rattle.redo_merge.specs.Merge.{merged};
+ghost use Rattle.std.specs.Prelude.{◌≡◌, IfOk, OnOk, map, None, replicate};
 ghost use Rattle.rebuild_steps.specs.Epochs.{in_epoch, merged_redo, threads_in};
 ghost use Rattle.report_steps.specs.Recovering.{redo_of};
 
@@ -16,8 +15,6 @@ fn no_versions(alloc: Global) -> Result<Table<Option<u64>>, NoMemory>
 {
     Ok(Table::from_vec(Vec::from_array(alloc, [None; 200])?))
 }
-
-ghost use Rattle.std.specs.Prelude.{None, replicate};
 
 /// What was read and done before the last change of membership, which began this epoch, is forgotten.
 ///

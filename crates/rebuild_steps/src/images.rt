@@ -1,6 +1,6 @@
 //! The images of blocks, whatever stands in them.
 
-ghost use Rattle.std.specs.Prelude.{◌≡◌, ◌<◌, true, IfOk, None, Some};
+ghost use Rattle.std.specs.Prelude.{◌≡◌, ◌<◌, true, IfOk};
 ghost use Rattle.std.specs.Option.{option_copied};
 ghost use Rattle.rebuild_steps.specs.Images.{LoadsImage, bytes_of, image_rolled, is_image_of, kind_of, newer, rolled_from, version_of};
 

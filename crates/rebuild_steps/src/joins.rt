@@ -3,9 +3,7 @@
 ghost use Rattle.std.specs.Prelude.{◌≡◌, ◌<◌, true, false, Err, IfErr, IfOk, OnOk};
 ghost use Rattle.inst_state.specs.Shared.{is_dark};
 ghost use Rattle.base_types.specs.Layout.{IsLayout};
-ghost use Rattle.undo_segment.specs.Segment.{SegmentState};
 ghost use Rattle.rebuild_steps.specs.Join.{JoinsAs, LoadsOwn, OpensAfter, asks_start, came_in, came_in_core, dark_core, entered_core, forgotten, is_laid_out, is_open_to_joins, is_start_of, joined, joined_core, joining, line_number, may_join, read_in, read_in_core};
-ghost use Rattle.rebuild_steps.specs.Open.{scns_of};
 
 use crate::ends::end;
 use crate::opens::{Opened, is_open, open, scns_of, settle_open, settle_open_core};

@@ -1,7 +1,7 @@
 //! An instance's thread is running again, from the end of its log.
 
-ghost use Rattle.std.specs.Prelude.{◌≡◌, ◌<◌, IfOk, OnOk};
-ghost use Rattle.rebuild_steps.specs.Open.{OpensAs, learnt_of, opened, opened_core, running_bytes, running_entry, scns_of};
+ghost use Rattle.std.specs.Prelude.{◌≡◌, ◌<◌, OnOk};
+ghost use Rattle.rebuild_steps.specs.Open.{OpensAs, learnt_of, opened, opened_core, running_bytes, running_entry, scns_of, is_open};
 
 use base_types::{InstNo, NoMemory, RedoAt};
 use control_image::{ControlEntry, ThreadStatus};
@@ -109,5 +109,3 @@ pub(crate) fn is_open(how: &Opened) -> bool
 {
     matches!(how, Opened::Running(_))
 }
-
-ghost use Rattle.rebuild_steps.specs.Open.{is_open};

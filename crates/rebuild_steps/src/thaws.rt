@@ -1,11 +1,8 @@
 //! The leader deals the blocks' masters anew and adopts the segments of instances that aren't there.
 
-ghost use Rattle.std.specs.Prelude.{◌≡◌, true, false, IfOk, OnOk};
+ghost use Rattle.std.specs.Prelude.{◌≡◌, true, IfOk, OnOk};
 ghost use Rattle.inst_loss.specs.Lost.{lost};
-ghost use Rattle.rebuild_steps.specs.Adopt.{to_adopt};
-ghost use Rattle.rebuild_steps.specs.Bound.{bound_of};
 ghost use Rattle.rebuild_steps.specs.Ends.{ended};
-ghost use Rattle.rebuild_steps.specs.Open.{scns_of};
 ghost use Rattle.rebuild_steps.specs.Thaw.{OpensIf, ThawsAs, bounded, dealt_core, is_restored, led, may_thaw, opened_core_if, opened_if, opens_own, runs, thaw_core, thaw_part, thawed, thawed_core, with_adopted};
 
 use crate::adopts::{adopt, read_segments, to_adopt};

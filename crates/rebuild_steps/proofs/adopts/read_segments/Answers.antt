@@ -1,8 +1,5 @@
-use Rattle.std.proofs.Common.{◌++◌, List, [], ◌∷◌, ℕ, subst, sym, take}
 use Rattle.std.proofs.lemmas.Result.{err_from_is_err_and}
-use Rattle.undo_segment.specs.Segment.{SegmentState}
-use Rattle.rebuild_steps.specs.Adopt.{ReadsEach}
-use Rattle.rebuild_steps.proofs.ReadSegments.{fails, one_more, take_item}
+use Rattle.rebuild_steps.proofs.ReadSegments.{fails, one_more_taken}
 use Rattle.rebuild_steps.proofs.adopts.read_segments.Goals as goal
 
 pub returns-in_err-segment-clause-err : goal.returns-in_err-segment-clause-err
@@ -15,15 +12,8 @@ returns-in_err-segment-clause-err g c =
 
 pub loop-seg-preserved : goal.loop-seg-preserved
 loop-seg-preserved g c =
-    let old = g.D.SharedDisk.state c.args.disk.now in
-    let mid = g.D.SharedDisk.state c.loop-seg.disk in
-    let new = g.D.SharedDisk.state c.load.new.disk in
-    let front = take c.loop-seg.seg-index c.args.segs.now in
-    let seg = c.seg-item.result in
-    let own = c.in_ok-segment.segment in
-    let more : ReadsEach c.args.layout.now (front ++ seg ∷ []) (c.loop-seg.read.items ++ own ∷ []) old new =
-    one_more c.args.layout.now front seg c.loop-seg.read.items own old mid new c.loop-seg.invariant
+    one_more_taken c.args.layout.now c.args.segs.now c.loop-seg.seg-index c.seg-item.result c.loop-seg.read.items c.push.new.self.items c.in_ok-segment.segment
+    (g.D.SharedDisk.state c.args.disk.now) (g.D.SharedDisk.state c.loop-seg.disk) (g.D.SharedDisk.state c.load.new.disk)
+    c.seg-item.is c.loop-seg-test.true c.loop-seg.invariant c.in_ok-push.ensures.items
     (record { clean = c.in_ok-segment.ensures.clean; seg = c.in_ok-segment.ensures.seg; tame = c.in_ok-segment.ensures.tame })
-    c.in_ok-segment.ensures.disk in
-    subst (λ (l : List ℕ). ReadsEach c.args.layout.now l c.push.new.self.items old new) (sym (take_item c.args.segs.now c.loop-seg.seg-index seg c.seg-item.is c.loop-seg-test.true))
-    (subst (λ (l : List SegmentState). ReadsEach c.args.layout.now (front ++ seg ∷ []) l old new) (sym c.in_ok-push.ensures.items) more)
+    c.in_ok-segment.ensures.disk
