@@ -57,7 +57,8 @@ use Rattle.report_steps.specs.Reopen.{reopened, reopened_core, resumed, resumed_
 use Rattle.report_steps.specs.Report.{given, reported, reported_core}
 use Rattle.report_steps.specs.TakeOver.{taken_over}
 use Rattle.thread_steps.specs.Close.{ClosesLogAs, closed_entry, read_of, thread_closed, thread_closed_core}
-use Rattle.thread_steps.specs.Read.{FindsThread, thread_read, thread_read_core}
+use Rattle.thread_steps.specs.Found.{FindsThread}
+use Rattle.thread_steps.specs.Read.{thread_read, thread_read_core}
 use Rattle.thread_steps.specs.declared.closes.Closing.{Closing}
 use Rattle.thread_steps.specs.declared.closes.Closing.TheVariants as closing
 use Rattle.thread_steps.specs.declared.found.Found.{Found}
