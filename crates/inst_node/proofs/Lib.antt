@@ -1,1 +1,2 @@
 pub mod May
+pub mod Ranges

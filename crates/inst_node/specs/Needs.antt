@@ -172,3 +172,12 @@ LineMay n core _ number = Unit {0}
 abbrev pub PlainMay : Inst → Core → PlainStep → Type 0
 PlainMay n core plain.Thaw = may_thaw n core ≡ true
 PlainMay n core _ = Unit {0}
+
+-- what the making of a step asks of an instance that is ready for it, by what the step is about
+abbrev pub ReadyMay : Inst → Core → Action → Type 0
+ReadyMay n core (Session kind z) = SessionMay n kind z
+ReadyMay n core (Dead kind job) = DeadMay n kind job
+ReadyMay n core (Block kind number) = BlockMay n core kind number
+ReadyMay n core (OfInst kind from) = InstMay n core kind from
+ReadyMay n core (Line kind number) = LineMay n core kind number
+ReadyMay n core (Plain kind) = PlainMay n core kind

@@ -1,8 +1,8 @@
 //! A step is made.
 
 ghost use Rattle.std.specs.Prelude.{◌≡◌, true, IfOk, OnOk};
-ghost use Rattle.inst_node.specs.Moves.{BlockDisk, DiskAfter, InstDisk, LineDisk, PlainDisk, SessionDisk, block_core, block_part, core_after, dead_core, dead_part, inst_core, inst_part, line_core, line_part, part_after, plain_core, plain_part, session_core, session_part};
-ghost use Rattle.inst_node.specs.Needs.{BlockMay, DeadMay, InstMay, LineMay, PlainMay, SessionMay, needs};
+ghost use Rattle.inst_node.specs.Moves.{BlockDisk, DiskAfter, DiskOf, InstDisk, LineDisk, PlainDisk, SessionDisk, block_core, block_part, core_after, core_of, dead_core, dead_part, inst_core, inst_part, line_core, line_part, part_after, part_of, plain_core, plain_part, session_core, session_part};
+ghost use Rattle.inst_node.specs.Needs.{BlockMay, DeadMay, InstMay, LineMay, PlainMay, ReadyMay, SessionMay, needs};
 
 use crate::actions::{Action, BlockStep, DeadStep, InstStep, LineStep, PlainStep, SessionStep};
 use crate::hows::How;
@@ -198,6 +198,34 @@ fn make_plain<D: SharedDisk>(
     Ok(How::Calm)
 }
 
+// Makes a step of an instance that is ready for it.
+fn make_ready<D: SharedDisk>(
+    alloc: Global,
+    inst: &mut Inst,
+    core: &mut Core,
+    disk: &mut D,
+    action: &Action,
+) -> Result<How, NoMemory>
+    requires { ReadyMay inst.old core.old action.now }
+    ensures part { IfOk result (λ how. inst.new ≡ part_of inst.old core.old action.now how) }
+    ensures core { IfOk result (λ how. core.new ≡ core_of inst.old core.old action.now how) }
+    ensures disk { IfOk result (λ how. DiskOf inst.old core.old action.now how (D.state disk.old) (D.state disk.new)) }
+{
+    match action {
+        Action::Session(kind, session) => {
+            make_for_session(alloc, inst, core, disk, *kind, *session)
+        }
+        Action::Dead(kind, job) => {
+            make_for_dead(alloc, inst, core, *kind, *job)?;
+            Ok(How::Calm)
+        }
+        Action::Block(kind, block) => make_with_block(alloc, inst, core, disk, *kind, *block),
+        Action::Inst(kind, from) => make_with_inst(alloc, inst, core, disk, *kind, *from),
+        Action::Line(kind, line) => make_for_line(alloc, inst, core, disk, *kind, *line),
+        Action::Plain(kind) => make_plain(alloc, inst, core, disk, *kind),
+    }
+}
+
 /// Makes a step of an instance that it may make: the step is counted, the instance takes over what a Thaw made where it has to,
 /// and the step is made. How the disk's calls went is returned.
 ///
@@ -216,19 +244,8 @@ pub fn make<D: SharedDisk>(
     ensures core { IfOk result (λ how. core.new ≡ core_after inst.old core.old action.now how) }
     ensures disk { IfOk result (λ how. DiskAfter inst.old core.old action.now how (D.state disk.old) (D.state disk.new)) }
 {
+    let me = inst.plan.me;
     prepare(alloc, inst, core, action)?;
-    count(core, inst.plan.me, action);
-    match action {
-        Action::Session(kind, session) => {
-            make_for_session(alloc, inst, core, disk, *kind, *session)
-        }
-        Action::Dead(kind, job) => {
-            make_for_dead(alloc, inst, core, *kind, *job)?;
-            Ok(How::Calm)
-        }
-        Action::Block(kind, block) => make_with_block(alloc, inst, core, disk, *kind, *block),
-        Action::Inst(kind, from) => make_with_inst(alloc, inst, core, disk, *kind, *from),
-        Action::Line(kind, line) => make_for_line(alloc, inst, core, disk, *kind, *line),
-        Action::Plain(kind) => make_plain(alloc, inst, core, disk, *kind),
-    }
+    count(core, me, action);
+    make_ready(alloc, inst, core, disk, action)
 }
