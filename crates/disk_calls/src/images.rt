@@ -16,6 +16,7 @@ use undo_image::{UndoBlock, UndoHeader};
 use undo_segment::LoadError;
 
 /// How a read of a data block went.
+#[derive(Drop)]
 pub enum ReadData {
     /// It gave this image.
     Image(Snapshot<DataBlock>),
@@ -26,6 +27,7 @@ pub enum ReadData {
 }
 
 /// How a read of a header or of an undo block went.
+#[derive(Drop)]
 pub enum ReadUndo {
     Head(Snapshot<UndoHeader>),
     Block(Snapshot<UndoBlock>),

@@ -21,6 +21,7 @@ use undo_segment::LoadError;
 use wire_net::{Lane, Message, Mode, PastHolder, Shipment};
 
 /// How an Install went.
+#[derive(Drop)]
 pub enum Installed {
     /// It made no call of the disk.
     Calm,

@@ -24,6 +24,7 @@ use undo_segment::LoadError;
 use wire_net::{Message, UndoImage};
 
 /// How an AskUndo went.
+#[derive(Drop)]
 pub enum AskedUndo {
     /// It made no call of the disk.
     Calm,

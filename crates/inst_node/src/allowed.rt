@@ -1,7 +1,7 @@
 //! Which kinds of steps the phase lets an instance make.
 
 ghost use Rattle.std.specs.Prelude.{◌≡◌};
-ghost use Rattle.inst_node.specs.Allowed.{block_kind, dead_kind, inst_kind, is_allowed, is_allowed_as, kind_class, line_kind, plain_kind, session_kind};
+ghost use Rattle.inst_node.specs.Allowed.{block_kind, dead_kind, inst_kind, is_allowed, is_allowed_as, is_frozen_before_report, kind_class, leads, line_kind, plain_kind, runs, session_kind};
 
 use crate::actions::{Action, BlockStep, DeadStep, InstStep, LineStep, PlainStep, SessionStep};
 use inst_state::{Core, Inst};
@@ -117,8 +117,6 @@ fn leads(inst: &Inst, core: &Core) -> bool
 {
     core.is_thawed() && core.is_led_by(inst.plan.me)
 }
-
-ghost use Rattle.inst_node.specs.Allowed.{is_frozen_before_report, leads, runs};
 
 fn is_allowed_as(inst: &Inst, core: &Core, class: Class) -> bool
     ensures { result ≡ is_allowed_as inst.now core.now class }

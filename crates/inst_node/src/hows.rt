@@ -7,6 +7,7 @@ use std::snapshot::Snapshot;
 use thread_steps::{Closing, Found};
 
 /// How the disk's calls of a step went, by its kind.
+#[derive(Drop)]
 pub enum How {
     /// The step makes no call.
     Calm,
