@@ -29,7 +29,7 @@ has_adopted adopted seg = list_any (λ own. seg_of own == seg) adopted
 -- The leader is to adopt a segment: its instance isn't there, and it hasn't adopted it yet.
 abbrev pub is_to_adopt : Inst → Core → ℕ → Bool
 is_to_adopt n core seg =
-    nat_lt seg core.layout.instances && is_down_segment n core seg && not (has_adopted n.leading.adopted seg)
+    nat_lt seg n.plan.layout.instances && is_down_segment n core seg && not (has_adopted n.leading.adopted seg)
 
 -- the instances whose segments the leader is to adopt, ascending
 unfoldable pub to_adopt : Inst → Core → List ℕ

@@ -1,5 +1,5 @@
 -- An instance joins.
-use Rattle.std.specs.Prelude.{◌≡◌, ℕ, ◌%◌, ◌==◌, ◌&&◌, ◌||◌, if◌then◌else◌, nat_le, nat_lt, not, Bool, true, false, [], Option, None, Some, Result, Ok, Err}
+use Rattle.std.specs.Prelude.{◌≡◌, ℕ, ◌==◌, ◌&&◌, ◌||◌, if◌then◌else◌, not, Bool, true, false, [], Option, None, Some, Result, Ok, Err}
 use Rattle.base_types.specs.declared.layout.Layout.{Layout}
 use Rattle.inst_set.specs.Sets.{is_empty, with_inst}
 use Rattle.rac_disk.specs.State.{State}
@@ -42,18 +42,10 @@ asks_start me (Some control) = is_start_of me control.wanted
 abbrev pub is_open_to_joins : Core → Bool
 is_open_to_joins core = is_running core.members.phase && is_empty core.paused || is_dark core.members.phase
 
--- This is how a disk is laid out: for 1 to 8 instances, 1 to 64 data blocks and 8 to 64 undo records, a multiple of 4.
-abbrev pub is_laid_out : Layout → Bool
-is_laid_out l =
-    nat_le 1 l.instances && nat_le l.instances 8 && nat_le 1 l.blocks && nat_le l.blocks 64 && nat_le 8 l.undo
-    && nat_le l.undo 64 && l.undo % 4 == 0
-
--- An instance joins that isn't live, where an open line asks for it and instances may join. The disk is laid out with a
--- segment for it.
+-- An instance joins that isn't live, where an open line asks for it and instances may join.
 abbrev pub may_join : Inst → Core → ℕ → Bool
 may_join n core line =
     asks_start n.plan.me (open_control core line) && not (is_live core n.plan.me) && is_open_to_joins core
-    && is_laid_out core.layout && nat_lt n.plan.me core.layout.instances
 
 -- the number of a line, 0 without one
 abbrev pub line_number : Option Control → ℕ
@@ -107,10 +99,10 @@ pub record ReadsBadOwn (layout : Layout) (me : ℕ) (old new : State) : Type 0 w
 abbrev pub JoinsAs : Inst → Core → Joined → State → State → Type 0
 JoinsAs n core Dark old new = (is_dark core.members.phase ≡ true) × (new ≡ old)
 JoinsAs n core (Read own how) old new =
-    (is_dark core.members.phase ≡ false) × OpensAfter core.layout n.plan.me (scns_of n core) own.value how old new
-JoinsAs n core Bad old new = (is_dark core.members.phase ≡ false) × ReadsBadOwn core.layout n.plan.me old new
+    (is_dark core.members.phase ≡ false) × OpensAfter n.plan.layout n.plan.me (scns_of n core) own.value how old new
+JoinsAs n core Bad old new = (is_dark core.members.phase ≡ false) × ReadsBadOwn n.plan.layout n.plan.me old new
 JoinsAs n core Unread old new =
-    (is_dark core.members.phase ≡ false) × LoadsOwn core.layout n.plan.me (Err error.Failed) old new
+    (is_dark core.members.phase ≡ false) × LoadsOwn n.plan.layout n.plan.me (Err error.Failed) old new
 
 -- an instance whose segment was read, after the opening of its thread
 abbrev pub with_segment : Inst → SegmentState → Clock → Opened → Inst

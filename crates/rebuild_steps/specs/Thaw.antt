@@ -20,17 +20,15 @@ use Rattle.rebuild_steps.specs.declared.thaws.Thawed.TheVariants.{Bad, Done, Uno
 use Rattle.rebuild_steps.specs.Adopt.{ReadsSegments, adopted, to_adopt}
 use Rattle.rebuild_steps.specs.Bound.{bound_of}
 use Rattle.rebuild_steps.specs.Ends.{ended}
-use Rattle.rebuild_steps.specs.Join.{is_laid_out}
 use Rattle.rebuild_steps.specs.Open.{OpensAs, is_open, learnt_of, opened, opened_core, scns_of}
 
 -- Each dead thread is closed, and each block rebuilt that is to be.
 unfoldable pub is_restored : Inst → Core → Bool
 is_restored n core = all_closed core && are_rebuilt n core
 
--- The leader thaws the cluster once each dead thread is closed and each block rebuilt that is to be. The disk is laid out
--- with segments.
+-- The leader thaws the cluster once each dead thread is closed and each block rebuilt that is to be.
 abbrev pub may_thaw : Inst → Core → Bool
-may_thaw n core = leads_recovery n core && is_restored n core && is_laid_out core.layout
+may_thaw n core = leads_recovery n core && is_restored n core
 
 -- The leader has come in with nobody live: its own thread is to be opened.
 abbrev pub opens_own : Inst → Core → Bool
@@ -62,7 +60,7 @@ pub record OpensAndReads (n : Inst) (core : Core) (opening : Option Opened) (res
   pub mid : State
   pub opens : OpensIf (opens_own n core) n.plan.me (scns_of n core) opening old mid
   pub runs : runs opening ≡ true
-  pub reads : ReadsSegments core.layout (to_adopt n core) result mid new
+  pub reads : ReadsSegments n.plan.layout (to_adopt n core) result mid new
 
 -- A block of a segment that the leader is to adopt isn't what a run leaves there.
 pub record ReadsBadSegment (n : Inst) (core : Core) (opening : Option Opened) (old new : State) : Type 0 where

@@ -34,7 +34,7 @@ fn has_adopted(adopted: &[Segment], seg: InstNo) -> bool
 fn is_to_adopt(inst: &Inst, core: &Core, seg: InstNo) -> bool
     ensures { result ≡ is_to_adopt inst.now core.now seg }
 {
-    seg.get() < core.layout.instances
+    seg.get() < inst.plan.layout.instances
         && is_down_segment(inst, core, seg)
         && !has_adopted(inst.leading.adopted.as_slice(), seg)
 }

@@ -16,12 +16,12 @@ fn no_versions(alloc: Global) -> Result<Table<Option<u64>>, NoMemory>
     Ok(Table::from_vec(Vec::from_array(alloc, [None; 200])?))
 }
 
-/// What was read and done before the last change of membership, which began this epoch, is forgotten.
-///
-/// # Errors
-///
-/// There is no memory for what is to be read.
-pub fn begin_epoch(alloc: Global, recovering: &mut Recovering, epoch: u32) -> Result<(), NoMemory>
+// What was read and done before the last change of membership, which began this epoch, is forgotten.
+pub(crate) fn begin_epoch(
+    alloc: Global,
+    recovering: &mut Recovering,
+    epoch: u32,
+) -> Result<(), NoMemory>
     ensures { OnOk result (recovering.new ≡ in_epoch recovering.old epoch) }
 {
     if recovering.epoch != epoch {

@@ -31,8 +31,8 @@ pub enum Image {
     Undo(UndoBlock),
 }
 
-/// What stands in a block.
-pub fn kind_of(layout: &Layout, block: BlockNo) -> Kind
+// What stands in a block.
+pub(crate) fn kind_of(layout: &Layout, block: BlockNo) -> Kind
     requires { block < 200 }
     ensures { result ≡ kind_of layout.now block }
 {
@@ -49,12 +49,9 @@ pub fn kind_of(layout: &Layout, block: BlockNo) -> Kind
     }
 }
 
-/// Reads the image of a block. What stands there is looked at, as each kind of block asks for.
-///
-/// # Errors
-///
-/// The call failed, or what stands there is no such block.
-pub fn load_image<D: SharedDisk>(
+// Reads the image of a block. What stands there is looked at, as each kind of block asks for; an error says that the call
+// failed, or that what stands there is no such block.
+pub(crate) fn load_image<D: SharedDisk>(
     layout: &Layout,
     block: BlockNo,
     disk: &mut D,

@@ -3,7 +3,7 @@
 ghost use Rattle.std.specs.Prelude.{◌≡◌, ◌<◌, true, false, Err, IfErr, IfOk, OnOk};
 ghost use Rattle.inst_state.specs.Shared.{is_dark};
 ghost use Rattle.base_types.specs.Layout.{IsLayout};
-ghost use Rattle.rebuild_steps.specs.Join.{JoinsAs, LoadsOwn, OpensAfter, asks_start, came_in, came_in_core, dark_core, entered_core, forgotten, is_laid_out, is_open_to_joins, is_start_of, joined, joined_core, joining, line_number, may_join, read_in, read_in_core};
+ghost use Rattle.rebuild_steps.specs.Join.{JoinsAs, LoadsOwn, OpensAfter, asks_start, came_in, came_in_core, dark_core, entered_core, forgotten, is_open_to_joins, is_start_of, joined, joined_core, joining, line_number, may_join, read_in, read_in_core};
 
 use crate::ends::end;
 use crate::opens::{Opened, is_open, open, scns_of, settle_open, settle_open_core};
@@ -53,31 +53,13 @@ fn is_open_to_joins(core: &Core) -> bool
     core.is_running() && core.paused.is_empty() || core.is_dark()
 }
 
-// Whether this is how a disk is laid out.
-pub(crate) fn is_laid_out(layout: &Layout) -> bool
-    ensures test { result ≡ is_laid_out layout.now }
-    ensures sound { result ≡ true → IsLayout layout.now }
-{
-    1 <= layout.instances
-        && layout.instances <= 8
-        && 1 <= layout.blocks
-        && layout.blocks <= 64
-        && 8 <= layout.undo
-        && layout.undo <= 64
-        && layout.undo % 4 == 0
-}
-
 /// Whether an instance may join: an open line asks for its start, it isn't live, and the cluster runs with nobody paused, or
-/// nobody is live. Besides, the disk is laid out with a segment for it, as it always is.
+/// nobody is live.
 pub fn may_join(inst: &Inst, core: &Core, line: u64) -> bool
     ensures { result ≡ may_join inst.now core.now line }
 {
     let me = inst.plan.me;
-    asks_start(me, core.open_control(line))
-        && !core.is_live(me)
-        && is_open_to_joins(core)
-        && is_laid_out(&core.layout)
-        && me.get() < core.layout.instances
+    asks_start(me, core.open_control(line)) && !core.is_live(me) && is_open_to_joins(core)
 }
 
 fn line_number(control: Option<Control>) -> u32
@@ -174,15 +156,13 @@ fn come_in<D: SharedDisk>(
     core: &mut Core,
     disk: &mut D,
 ) -> Result<Joined, NoMemory>
-    requires layout { IsLayout core.old.layout }
-    requires in_range { inst.old.plan.me < core.old.layout.instances }
-    requires light { is_dark core.old.members.phase ≡ false }
+    requires { is_dark core.old.members.phase ≡ false }
     ensures part { IfOk result (λ how. inst.new ≡ came_in inst.old core.old how) }
     ensures core { IfOk result (λ how. core.new ≡ came_in_core inst.old core.old how) }
     ensures disk { IfOk result (λ how. JoinsAs inst.old core.old how (D.state disk.old) (D.state disk.new)) }
 {
     let scns = scns_of(inst, core);
-    match read_own(alloc, &core.layout, inst.plan.me, &scns, disk) {
+    match read_own(alloc, &inst.plan.layout, inst.plan.me, &scns, disk) {
         Ok((segment, opened)) => {
             let read = Snapshot::of(&segment);
             settle(alloc, inst, core, segment, &scns, &opened)?;
@@ -207,7 +187,6 @@ fn come_in<D: SharedDisk>(
 /// # Errors
 ///
 /// There is no memory for its segment, for its thread, or for its loss.
-#[tactic(auto, using(crate::proofs::Layouts::may_join_layout))]
 pub fn join<D: SharedDisk>(
     alloc: Global,
     inst: &mut Inst,

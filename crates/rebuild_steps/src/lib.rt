@@ -15,8 +15,7 @@ mod opens;
 mod recovers;
 mod thaws;
 
-pub use epochs::begin_epoch;
-pub use images::{Image, Kind, kind_of, load_image};
+pub use images::Image;
 pub use joins::{Joined, join, may_join};
 pub use opens::Opened;
 pub use recovers::{Recovered, may_recover, recover_block};

@@ -8,7 +8,6 @@ ghost use Rattle.rebuild_steps.specs.Thaw.{OpensIf, ThawsAs, bounded, dealt_core
 use crate::adopts::{adopt, read_segments, to_adopt};
 use crate::bounds::bound_of;
 use crate::ends::end;
-use crate::joins::is_laid_out;
 use crate::opens::{Opened, is_open, learn, open, scns_of, settle_open, settle_open_core};
 use base_types::{InstNo, NoMemory};
 use inst_state::{Core, Inst};
@@ -41,12 +40,11 @@ fn is_restored(inst: &Inst, core: &Core) -> bool
     all_closed(core) && are_rebuilt(inst, core)
 }
 
-/// Whether the leader may thaw the cluster: each dead thread is closed, and each block rebuilt that is to be. Besides, the
-/// disk is laid out with segments, as it always is.
+/// Whether the leader may thaw the cluster: each dead thread is closed, and each block rebuilt that is to be.
 pub fn may_thaw(inst: &Inst, core: &Core) -> bool
     ensures { result ≡ may_thaw inst.now core.now }
 {
-    leads_recovery(inst, core) && is_restored(inst, core) && is_laid_out(&core.layout)
+    leads_recovery(inst, core) && is_restored(inst, core)
 }
 
 // Opens the leader's thread, if it is to be opened.
@@ -182,7 +180,7 @@ fn settle(
 /// # Errors
 ///
 /// There is no memory for the segments, for its thread, for what it takes over, or for its loss.
-#[tactic(auto, using(crate::proofs::Layouts::may_thaw_layout, crate::proofs::Layouts::to_adopt_in_range))]
+#[tactic(auto, using(crate::proofs::Layouts::to_adopt_in_range))]
 pub fn thaw<D: SharedDisk>(
     alloc: Global,
     inst: &mut Inst,
@@ -201,7 +199,7 @@ pub fn thaw<D: SharedDisk>(
         settle_loss(alloc, inst, core, &scns, &opening, false)?;
         return Ok(Thawed::Unopened(opening));
     }
-    match read_segments(alloc, &core.layout, segs.as_slice(), disk) {
+    match read_segments(alloc, &inst.plan.layout, segs.as_slice(), disk) {
         Ok(read) => {
             let owns = Snapshot::of(&read);
             settle(alloc, inst, core, &scns, &opening, read)?;
