@@ -1,7 +1,6 @@
 -- What the making of a step asks follows from its needs.
 use Rattle.std.proofs.Common.{◌≡◌, ℕ, ◌<◌, ◌&&◌, ◌||◌, not, nat_lt, Bool, true, false, refl, subst, arith}
 use Rattle.std.specs.List.{list_all, range_with_len}
-use Rattle.rebuild_steps.specs.Join.{is_laid_out}
 use Rattle.disk_steps.specs.Write.{is_due, may_write_block, redo_is_durable}
 use Rattle.report_steps.specs.Recovering.{all_closed, are_read, is_dead, is_rebuilt, is_to_rebuild, leads_recovery}
 use Rattle.thread_steps.specs.Close.{is_all_rebuilt, may_close}
@@ -56,7 +55,7 @@ close_may n core w thread is =
 thaw_may : (n : Inst) (core : Core) (w : Waves) → may_thaw n core ≡ true → may_thaw n (at_waves core w) ≡ true
 unfolding is_restored
 thaw_may n core w is =
-    subst (λ b. (leads_recovery n core && (all_closed core && b) && is_laid_out core.layout) ≡ true) (same_rebuilt 200 n core w) is
+    subst (λ b. (leads_recovery n core && (all_closed core && b)) ≡ true) (same_rebuilt 200 n core w) is
 
 session_may : (n : Inst) (core : Core) (kind : SessionStep) (z : ℕ) → needs n core (Session kind z) ≡ true → SessionMay (prepared n core (Session kind z)) kind z
 unfolding session_needs prepared
