@@ -1,0 +1,5 @@
+pub mod Controls
+pub mod Core
+pub mod Inst
+pub mod Lines
+pub mod Plan
