@@ -4,10 +4,12 @@
 mod asking;
 mod controls;
 mod cores;
+mod creation;
 mod insts;
 mod plans;
 mod turns;
 
 pub use cores::first_core;
+pub use creation::{Created, create};
 pub use insts::first_inst;
 pub use plans::{first_plan, layout_of};
