@@ -1,2 +1,4 @@
+pub mod Holds
 pub mod Made
 pub mod Numbered
+pub mod Segments

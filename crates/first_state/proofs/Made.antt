@@ -1,5 +1,5 @@
 -- Changes that are made one after another.
-use Rattle.std.proofs.Common.{◌≡◌, ◌+◌, ◌-◌, ◌<◌, ◌≤◌, ◌/◌, ◌∙◌, ℕ, List, [], ◌∷◌, ◌++◌, map, zero, suc, sym, ap, subst, inl, inr, arith, refl}
+use Rattle.std.proofs.Common.{◌≡◌, ◌+◌, ◌-◌, ◌<◌, ◌≤◌, ◌/◌, ℕ, List, [], ◌∷◌, ◌++◌, map, suc, sym, ap, subst, inl, inr, arith, refl}
 use Rattle.std.proofs.Math.Nat.{div-le_self}
 use Rattle.std.specs.List.{range_with_len}
 use Rattle.rac_disk.specs.State.{Change, Makes, State}

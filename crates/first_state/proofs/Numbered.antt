@@ -1,5 +1,5 @@
 -- Lists with numbers, from their fronts on.
-use Rattle.std.proofs.Common.{◌≡◌, ◌+◌, ◌<◌, ◌∙◌, ℕ, List, [], ◌∷◌, ◌++◌, zero, suc, length, take, get_or, sym, ap, arith}
+use Rattle.std.proofs.Common.{◌≡◌, ◌+◌, ◌<◌, ℕ, List, [], ◌∷◌, ◌++◌, zero, suc, length, take, get_or, arith}
 use Rattle.std.specs.List.{enumerate_from, range_with_len}
 
 -- one number more

@@ -1,5 +1,5 @@
 -- What the instances share before the first step.
-use Rattle.std.specs.Prelude.{ℕ, if◌then◌else◌, nat_lt, false, List, [], ◌∷◌, length, map, Option, None, Some, replicate}
+use Rattle.std.specs.Prelude.{ℕ, if◌then◌else◌, nat_lt, false, [], length, map, Option, None, Some, replicate}
 use Rattle.inst_set.specs.declared.set.InstSet.{InstSet}
 use Rattle.inst_set.specs.Sets.{all_insts, no_insts}
 use Rattle.scn_clock.specs.declared.clock.Clock.{Clock}

@@ -1,5 +1,5 @@
 -- A database is made anew on a disk.
-use Rattle.std.specs.Prelude.{◌≡◌, ℕ, ◌-◌, ◌/◌, ◌%◌, ◌⊎◌, ◌==◌, if◌then◌else◌, nat_lt, List, [], ◌∷◌, ◌++◌, map}
+use Rattle.std.specs.Prelude.{◌≡◌, ℕ, ◌-◌, ◌/◌, ◌%◌, ◌⊎◌, ◌==◌, if◌then◌else◌, nat_lt, ◌<◌, List, [], ◌∷◌, ◌++◌, map}
 use Rattle.std.specs.List.{range_with_len}
 use Rattle.base_types.specs.declared.layout.Layout.{Layout}
 use Rattle.base_types.specs.Layout.{segment_blocks, total_of}
@@ -11,7 +11,8 @@ use Rattle.control_image.specs.declared.entry.ControlEntry.{ControlEntry}
 use Rattle.control_image.specs.declared.entry.ThreadStatus.{ThreadStatus}
 use Rattle.control_image.specs.declared.entry.ThreadStatus.TheVariants.{Closed, Running}
 use Rattle.control_image.specs.Entry.{entry_bytes}
-use Rattle.rac_disk.specs.State.{Change, CutTo, Makes, PutBlock, PutControl, State}
+use Rattle.rac_disk.specs.Content.{Content, block_at, control_at, log_at}
+use Rattle.rac_disk.specs.State.{Change, CutTo, HadFault, IsCalm, Makes, PutBlock, PutControl, State}
 use Rattle.disk_calls.specs.Calls.{done, failed}
 use Rattle.first_state.specs.declared.creation.Created.{Created}
 use Rattle.first_state.specs.declared.creation.Created.TheVariants.{Failed, Whole}
@@ -68,3 +69,25 @@ MakesEach [] Failed old new = ⊥
 MakesEach (change ∷ more) how old new =
     ((mid : State) × Makes change done old mid × MakesEach more how mid new)
     ⊎ ((how ≡ Failed) × Makes change failed old new)
+
+-- A disk holds a new database: all logs are empty, and each block and each control entry is the first one.
+pub record IsNew (layout : Layout) (it : Content) : Type 0 where
+  pub logs : (thread : ℕ) → thread < 8 → log_at it thread ≡ []
+  pub blocks : (number : ℕ) → number < total_of layout → block_at it number ≡ first_block layout number
+  pub entries : (thread : ℕ) → thread < 8 → control_at it thread ≡ entry_bytes_of layout thread
+
+-- Each log, block and control entry of a disk is as it was, or as a new database has it.
+pub record IsPartlyNew (layout : Layout) (old new : Content) : Type 0 where
+  pub logs : (thread : ℕ) → (log_at new thread ≡ log_at old thread) ⊎ (log_at new thread ≡ [])
+  pub blocks : (number : ℕ) → (block_at new number ≡ block_at old number) ⊎ (block_at new number ≡ first_block layout number)
+  pub entries : (thread : ℕ) → (control_at new thread ≡ control_at old thread) ⊎ (control_at new thread ≡ entry_bytes_of layout thread)
+
+-- what a creation leaves on the disk that went so
+abbrev pub LeavesNew : Layout → Created → Content → Content → Type 0
+LeavesNew layout Whole old new = IsNew layout new
+LeavesNew layout Failed old new = IsPartlyNew layout old new
+
+-- what a creation counts that went so: a fault where a call failed
+abbrev pub CountsFaults : Created → State → State → Type 0
+CountsFaults Whole old new = IsCalm old new
+CountsFaults Failed old new = HadFault old new

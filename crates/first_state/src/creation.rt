@@ -3,7 +3,8 @@
 ghost use Rattle.std.specs.Prelude.{◌≡◌, ◌<◌, ◌++◌};
 ghost use Rattle.base_types.specs.Layout.{IsLayout, total_of};
 ghost use Rattle.disk_calls.specs.Calls.{WritesBlockAs, WritesControlAs};
-ghost use Rattle.first_state.specs.Create.{MakesEach, creation, empties, entry_bytes_of, first_block, first_entry, first_status, for_each, puts_block, puts_entry, segment_block};
+ghost use Rattle.rac_disk.specs.State.{WhereTold};
+ghost use Rattle.first_state.specs.Create.{CountsFaults, LeavesNew, MakesEach, creation, empties, entry_bytes_of, first_block, first_entry, first_status, for_each, puts_block, puts_entry, segment_block};
 
 use base_types::{BlockNo, InstNo, Layout, RedoAt, Scn};
 use block_image::DataBlock;
@@ -141,9 +142,8 @@ fn go_on<D: SharedDisk>(layout: &Layout, disk: &mut D) -> Created
     }
 }
 
-/// Makes a database anew: all logs are empty, no row and no undo record was ever written, and the threads of the instances
-/// are in use.
-pub fn create<D: SharedDisk>(layout: &Layout, disk: &mut D) -> Created
+// The calls of a creation.
+fn make<D: SharedDisk>(layout: &Layout, disk: &mut D) -> Created
     requires { IsLayout layout.now }
     ensures { MakesEach (creation layout.now) result (D.state disk.old) (D.state disk.new) }
 {
@@ -151,4 +151,16 @@ pub fn create<D: SharedDisk>(layout: &Layout, disk: &mut D) -> Created
         Created::Whole => go_on(layout, disk),
         Created::Failed => Created::Failed,
     }
+}
+
+/// Makes a database anew: all logs are empty, no row and no undo record was ever written, and the threads of the instances
+/// are in use. A call that fails ends it.
+#[tactic(auto, using(crate::proofs::Holds::counts_faults, crate::proofs::Holds::leaves_new))]
+pub fn create<D: SharedDisk>(layout: &Layout, disk: &mut D) -> Created
+    requires { IsLayout layout.now }
+    ensures calls { MakesEach (creation layout.now) result (D.state disk.old) (D.state disk.new) }
+    ensures disk { WhereTold (D.state disk.old).told (D.state disk.new).told (LeavesNew layout.now result) }
+    ensures counts { CountsFaults result (D.state disk.old) (D.state disk.new) }
+{
+    make(layout, disk)
 }

@@ -2,7 +2,7 @@ use Rattle.std.proofs.Common.{◌++◌}
 use Rattle.base_types.specs.Layout.{total_of}
 use Rattle.first_state.specs.Create.{empties, for_each, puts_block, puts_entry}
 use Rattle.first_state.proofs.Made.{failed_then, made_then}
-use Rattle.first_state.proofs.creation.create.Goals as goal
+use Rattle.first_state.proofs.creation.make.Goals as goal
 
 pub returns-in-Whole : goal.returns-in-Whole
 returns-in-Whole g c =
