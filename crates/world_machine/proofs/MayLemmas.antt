@@ -191,8 +191,8 @@ all_may w (n ∷ insts) i e =
 drawn_may : (g : Lcg) (w : World) (c : Step) (h : Lcg) → IsDrawn g w c h → MayMake w c
 drawn_may g w c h drawn =
     let k = (pcg32 g).0 % length (enabled w) in
-    let there : get_or (enabled w) k c ≡ c = sym (unwrap_or-slice_get (enabled w) k c) ∙ ap (λ o. unwrap_or o c) drawn.step in
-    subst (MayMake w) there (All-get_or (MayMake w) (enabled w) k c (slice_get_within (enabled w) k c drawn.step) (all_may w w.insts 0 refl))
+    let there : get_or (enabled w) k c ≡ c = sym (unwrap_or-slice_get (enabled w) k c) ∙ ap (λ o. unwrap_or o c) drawn.picked in
+    subst (MayMake w) there (All-get_or (MayMake w) (enabled w) k c (slice_get_within (enabled w) k c drawn.picked) (all_may w w.insts 0 refl))
 
 -- an instance may crash by a line whose crash is due
 crash_needs : (n : Inst) (core : Core) (control : Control) → due_crash core n.plan.me ≡ Some control → needs n core (Line line.Crash control.line) ≡ true

@@ -14,8 +14,8 @@ words seed = started 64 multiplier_64 seed (increment_of 64 1)
 
 -- The next word picks the step, by its rest at the number of those that may be made.
 pub record IsDrawn (g : Lcg) (w : World) (step : Step) (h : Lcg) : Type 0 where
-  pub step : slice_get (enabled w) ((pcg32 g).0 % length (enabled w)) ≡ Some step
-  pub words : h ≡ (pcg32 g).1
+  pub picked : slice_get (enabled w) ((pcg32 g).0 % length (enabled w)) ≡ Some step
+  pub drawn : h ≡ (pcg32 g).1
 
 -- A due crash comes first and draws no word.
 abbrev pub IsPickedBy : Option Step → Lcg → World → Step → Lcg → Type 0
