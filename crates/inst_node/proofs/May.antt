@@ -44,7 +44,7 @@ at_waves core w = record core { waves = w }
 -- the waves don't count for what is rebuilt
 same_rebuilt : (k : ℕ) (n : Inst) (core : Core) (w : Waves)
     → list_all (λ block. not (is_to_rebuild n core block) || is_rebuilt n core block) (range_with_len 0 k)
-        ≡ list_all (λ block. not (is_to_rebuild n (at_waves core w) block) || is_rebuilt n (at_waves core w) block) (range_with_len 0 k)
+    ≡ list_all (λ block. not (is_to_rebuild n (at_waves core w) block) || is_rebuilt n (at_waves core w) block) (range_with_len 0 k)
 same_rebuilt k n core w = refl
 
 close_may : (n : Inst) (core : Core) (w : Waves) (thread : ℕ) → may_close n core thread ≡ true → may_close n (at_waves core w) thread ≡ true
@@ -82,9 +82,9 @@ block_may n core block.Ask number is = tt
 block_may n core block.Evict number is = tt
 block_may n core block.WriteBlock number is =
     below number 200
-        (both_left (nat_lt number 200) (is_due n core number)
-            (both_left (nat_lt number 200 && is_due n core number) (redo_is_durable n number)
-                (both_right (is_allowed n core (Block block.WriteBlock number)) (may_write_block n core number) is)))
+    (both_left (nat_lt number 200) (is_due n core number)
+    (both_left (nat_lt number 200 && is_due n core number) (redo_is_durable n number)
+    (both_right (is_allowed n core (Block block.WriteBlock number)) (may_write_block n core number) is)))
 block_may n core block.AskWrite number is = tt
 block_may n core block.GivePast number is = tt
 block_may n core block.RecoverBlock number is = is

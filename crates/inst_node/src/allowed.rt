@@ -128,9 +128,7 @@ fn is_allowed_as(inst: &Inst, core: &Core, class: Class) -> bool
             core.is_live(inst.plan.me)
                 && (runs(inst, core) || is_frozen_before_report(inst, core) || core.is_thawed())
         }
-        Class::Serving => {
-            core.is_live(inst.plan.me) && (runs(inst, core) || core.is_thawed())
-        }
+        Class::Serving => { core.is_live(inst.plan.me) && (runs(inst, core) || core.is_thawed()) }
         Class::Leading => core.is_live(inst.plan.me) && (runs(inst, core) || leads(inst, core)),
         Class::Running => core.is_live(inst.plan.me) && runs(inst, core),
     }

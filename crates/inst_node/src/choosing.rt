@@ -26,10 +26,7 @@ fn offer(
     ensures { OnOk result (out.new ≡ out.old ++ offer me inst.now core.now action) }
 {
     if needs(inst, core, &action) {
-        out.push(Step {
-            inst: me,
-            action,
-        })
+        out.push(Step { inst: me, action })
     } else {
         Ok(())
     }
@@ -169,7 +166,12 @@ fn alone(
 }
 
 #[tactic(auto, unfolding(crate::specs::Choices::local_choices))]
-fn local_choices(me: InstNo, inst: &Inst, core: &Core, out: &mut Sequence<Step>) -> Result<(), NoMemory>
+fn local_choices(
+    me: InstNo,
+    inst: &Inst,
+    core: &Core,
+    out: &mut Sequence<Step>,
+) -> Result<(), NoMemory>
     ensures { OnOk result (out.new ≡ out.old ++ local_choices me inst.now core.now) }
 {
     for_sessions(me, inst, core, SessionStep::StartStmt, out)?;
@@ -183,7 +185,12 @@ fn local_choices(me: InstNo, inst: &Inst, core: &Core, out: &mut Sequence<Step>)
 }
 
 #[tactic(auto, unfolding(crate::specs::Choices::block_choices))]
-fn block_choices(me: InstNo, inst: &Inst, core: &Core, out: &mut Sequence<Step>) -> Result<(), NoMemory>
+fn block_choices(
+    me: InstNo,
+    inst: &Inst,
+    core: &Core,
+    out: &mut Sequence<Step>,
+) -> Result<(), NoMemory>
     ensures { OnOk result (out.new ≡ out.old ++ block_choices me inst.now core.now) }
 {
     let blocks = inst.cache.blocks();
@@ -196,7 +203,12 @@ fn block_choices(me: InstNo, inst: &Inst, core: &Core, out: &mut Sequence<Step>)
 }
 
 #[tactic(auto, unfolding(crate::specs::Choices::image_choices))]
-fn image_choices(me: InstNo, inst: &Inst, core: &Core, out: &mut Sequence<Step>) -> Result<(), NoMemory>
+fn image_choices(
+    me: InstNo,
+    inst: &Inst,
+    core: &Core,
+    out: &mut Sequence<Step>,
+) -> Result<(), NoMemory>
     ensures { OnOk result (out.new ≡ out.old ++ image_choices me inst.now core.now) }
 {
     with_insts(me, inst, core, InstStep::MasterTake, out)?;
@@ -210,7 +222,12 @@ fn image_choices(me: InstNo, inst: &Inst, core: &Core, out: &mut Sequence<Step>)
 }
 
 #[tactic(auto, unfolding(crate::specs::Choices::news_choices))]
-fn news_choices(me: InstNo, inst: &Inst, core: &Core, out: &mut Sequence<Step>) -> Result<(), NoMemory>
+fn news_choices(
+    me: InstNo,
+    inst: &Inst,
+    core: &Core,
+    out: &mut Sequence<Step>,
+) -> Result<(), NoMemory>
     ensures { OnOk result (out.new ≡ out.old ++ news_choices me inst.now core.now) }
 {
     for_sessions(me, inst, core, SessionStep::AskUndo, out)?;
@@ -222,7 +239,12 @@ fn news_choices(me: InstNo, inst: &Inst, core: &Core, out: &mut Sequence<Step>) 
 }
 
 #[tactic(auto, unfolding(crate::specs::Choices::line_choices))]
-fn line_choices(me: InstNo, inst: &Inst, core: &Core, out: &mut Sequence<Step>) -> Result<(), NoMemory>
+fn line_choices(
+    me: InstNo,
+    inst: &Inst,
+    core: &Core,
+    out: &mut Sequence<Step>,
+) -> Result<(), NoMemory>
     ensures { OnOk result (out.new ≡ out.old ++ line_choices me inst.now core.now) }
 {
     for_lines(me, inst, core, LineStep::SendBucket, out)?;
@@ -234,11 +256,23 @@ fn line_choices(me: InstNo, inst: &Inst, core: &Core, out: &mut Sequence<Step>) 
 }
 
 #[tactic(auto, unfolding(crate::specs::Choices::recovery_choices))]
-fn recovery_choices(me: InstNo, inst: &Inst, core: &Core, out: &mut Sequence<Step>) -> Result<(), NoMemory>
+fn recovery_choices(
+    me: InstNo,
+    inst: &Inst,
+    core: &Core,
+    out: &mut Sequence<Step>,
+) -> Result<(), NoMemory>
     ensures { OnOk result (out.new ≡ out.old ++ recovery_choices me inst.now core.now) }
 {
     alone(me, inst, core, PlainStep::Report, out)?;
-    with_blocks(me, inst, core, BlockStep::GivePast, inst.cache.blocks(), out)?;
+    with_blocks(
+        me,
+        inst,
+        core,
+        BlockStep::GivePast,
+        inst.cache.blocks(),
+        out,
+    )?;
     with_insts(me, inst, core, InstStep::ReadThread, out)?;
     with_blocks(me, inst, core, BlockStep::RecoverBlock, 200, out)?;
     with_insts(me, inst, core, InstStep::CloseThread, out)?;
@@ -255,7 +289,12 @@ fn recovery_choices(me: InstNo, inst: &Inst, core: &Core, out: &mut Sequence<Ste
 ///
 /// There is no memory for one more step.
 #[tactic(auto, unfolding(crate::specs::Choices::choices))]
-pub fn add_choices(me: InstNo, inst: &Inst, core: &Core, out: &mut Sequence<Step>) -> Result<(), NoMemory>
+pub fn add_choices(
+    me: InstNo,
+    inst: &Inst,
+    core: &Core,
+    out: &mut Sequence<Step>,
+) -> Result<(), NoMemory>
     ensures { OnOk result (out.new ≡ out.old ++ choices me inst.now core.now) }
 {
     local_choices(me, inst, core, out)?;

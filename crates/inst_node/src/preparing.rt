@@ -50,12 +50,7 @@ pub fn count(core: &mut Core, me: InstNo, action: &Action)
 
 /// Makes an instance ready for a step: it takes over what a Thaw made, where the step needs that and it hasn't yet.
 #[tactic(auto, unfolding(crate::specs::Moves::prepared))]
-pub fn prepare(
-    alloc: Global,
-    inst: &mut Inst,
-    core: &Core,
-    action: &Action,
-) -> Result<(), NoMemory>
+pub fn prepare(alloc: Global, inst: &mut Inst, core: &Core, action: &Action) -> Result<(), NoMemory>
     ensures { OnOk result (inst.new ≡ prepared inst.old core.now action.now) }
 {
     if comes_after_thaw(class_of(action)) && core.is_thawed() {

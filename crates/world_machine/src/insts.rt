@@ -79,11 +79,7 @@ impl Insts {
 }
 
 /// Adds the steps, but for crashes, that these instances may make.
-pub(crate) fn add_all(
-    insts: &[Inst],
-    core: &Core,
-    out: &mut Sequence<Step>,
-) -> Result<(), NoMemory>
+pub(crate) fn add_all(insts: &[Inst], core: &Core, out: &mut Sequence<Step>) -> Result<(), NoMemory>
     requires { length insts.now ≤ 8 }
     ensures { OnOk result (out.new ≡ out.old ++ enabled_from 0 insts.now core.now) }
 {

@@ -14,11 +14,7 @@ use std::alloc::Global;
 pub type Book = Sequence<Step>;
 
 // The first due crash, or else the step that the next word picks among those that may be made; `None` where there is none.
-fn pick(
-    alloc: Global,
-    world: &World,
-    words: &mut Lcg64Xsh32,
-) -> Result<Option<Step>, NoMemory>
+fn pick(alloc: Global, world: &World, words: &mut Lcg64Xsh32) -> Result<Option<Step>, NoMemory>
     ensures picked { IfOk result (λ step. IfSome step (λ step. IsPicked words.old world.now step words.new)) }
     ensures none { IfOk result (λ step. IfNone step (IsStuck world.now × (words.new ≡ words.old))) }
 {
