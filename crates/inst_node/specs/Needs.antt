@@ -1,10 +1,10 @@
 -- Which steps an instance may make.
-use Rattle.std.specs.Prelude.{◌≡◌, ℕ, ◌<◌, ◌==◌, ◌&&◌, Bool, true, false, Option, None, Some}
+use Rattle.std.specs.Prelude.{◌≡◌, ℕ, ◌<◌, ◌==◌, ◌&&◌, Bool, true, false, Option, None, Some, is_some}
 use Rattle.wire_net.specs.declared.message.Lane.TheVariants.{Main, Undo}
 use Rattle.inst_state.specs.declared.control.Control.{Control}
 use Rattle.inst_state.specs.declared.inst.Inst.{Inst}
 use Rattle.inst_state.specs.declared.shared.Core.{Core}
-use Rattle.inst_state.specs.Shared.{due_crash}
+use Rattle.inst_state.specs.Shared.{due_crash, open_control}
 use Rattle.stmt_steps.specs.Back.{may_step_back, may_step_back_dead}
 use Rattle.stmt_steps.specs.Change.{may_change}
 use Rattle.stmt_steps.specs.End.{may_end}
@@ -102,12 +102,16 @@ abbrev pub is_by_line : ℕ → Option Control → Bool
 is_by_line number None = false
 is_by_line number (Some control) = control.line == number
 
+-- A control line of the wave isn't answered yet.
+abbrev pub is_open : Core → ℕ → Bool
+is_open core number = is_some (open_control core number)
+
 -- what a step for a control line needs
 unfoldable pub line_needs : Inst → Core → LineStep → ℕ → Bool
 line_needs n core line.Crash number = is_by_line number (due_crash core n.plan.me)
 line_needs n core line.SendBucket number = may_send_bucket n core number
 line_needs n core line.KeepBucket number = may_keep_bucket n core number
-line_needs n core line.Checkpoint number = may_end_checkpoint n number
+line_needs n core line.Checkpoint number = is_open core number && may_end_checkpoint n number
 line_needs n core line.Skip number = may_skip n core number
 line_needs n core line.Join number = may_join n core number
 

@@ -1,7 +1,7 @@
 //! Which steps an instance may make.
 
 ghost use Rattle.std.specs.Prelude.{◌≡◌};
-ghost use Rattle.inst_node.specs.Needs.{action_needs, block_needs, dead_needs, inst_needs, is_by_line, line_needs, needs, plain_needs, session_needs};
+ghost use Rattle.inst_node.specs.Needs.{action_needs, block_needs, dead_needs, inst_needs, is_by_line, is_open, line_needs, needs, plain_needs, session_needs};
 
 use crate::actions::{Action, BlockStep, DeadStep, InstStep, LineStep, PlainStep, SessionStep};
 use crate::allowed::is_allowed;
@@ -99,6 +99,13 @@ fn is_by_line(line: u32, control: Option<Control>) -> bool
     }
 }
 
+// Whether a control line of the wave isn't answered yet.
+fn is_open(core: &Core, line: u32) -> bool
+    ensures { result ≡ is_open core.now line }
+{
+    core.open_control(u64::from(line)).is_some()
+}
+
 #[tactic(auto, unfolding(crate::specs::Needs::line_needs))]
 fn line_needs(inst: &Inst, core: &Core, kind: LineStep, line: u32) -> bool
     ensures { result ≡ line_needs inst.now core.now kind line }
@@ -107,7 +114,7 @@ fn line_needs(inst: &Inst, core: &Core, kind: LineStep, line: u32) -> bool
         LineStep::Crash => is_by_line(line, core.due_crash(inst.plan.me)),
         LineStep::SendBucket => may_send_bucket(inst, core, u64::from(line)),
         LineStep::KeepBucket => may_keep_bucket(inst, core, u64::from(line)),
-        LineStep::Checkpoint => may_end_checkpoint(inst, line),
+        LineStep::Checkpoint => is_open(core, line) && may_end_checkpoint(inst, line),
         LineStep::Skip => may_skip(inst, core, u64::from(line)),
         LineStep::Join => may_join(inst, core, u64::from(line)),
     }
