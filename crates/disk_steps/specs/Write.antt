@@ -106,10 +106,14 @@ abbrev pub is_dirty_at : Option SegmentState → ℕ → Bool
 is_dirty_at None block = false
 is_dirty_at (Some segment) block = is_dirty_in segment (place_in segment block)
 
+-- What was adopted is written by the leader while the phase is Thawed, and also while it is Frozen.
+abbrev pub goes_on_adopted : Inst → Core → Bool
+goes_on_adopted n core = leads n core || is_frozen core.members.phase
+
 -- A dirty block is to be written, by what it is.
 abbrev pub is_due_as : Inst → Core → ℕ → Target → Bool
 is_due_as n core block Data = is_data_due n core block
-is_due_as n core block (Adopted at) = leads n core && is_dirty_at (slice_get n.leading.adopted at) block
+is_due_as n core block (Adopted at) = goes_on_adopted n core && is_dirty_at (slice_get n.leading.adopted at) block
 is_due_as n core block Own = is_own_due n core (place_in n.segment block)
 
 -- A dirty block is to be written, once its redo is on the disk.

@@ -7,7 +7,7 @@ ghost use Rattle.disk_calls.specs.Calls.{WritesBlockAs};
 ghost use Rattle.buffer_cache.specs.Cache.{place_at};
 ghost use Rattle.inst_state.specs.Hand.{current_image};
 ghost use Rattle.image_steps.specs.ServeUndo.{place_in};
-ghost use Rattle.disk_steps.specs.Write.{adopted_cleaned, adopted_is_durable, block_written, bytes_as, bytes_to_write, cleaned_in, gives_frame, goes_before_report, goes_on_or_leads, has_block, image_bytes, is_data_due, is_dirty_at, is_dirty_in, is_due, is_due_as, is_global, is_global_role, is_own_due, is_undo_waited_for, is_waited_for, leads, may_write_block, no_bytes, redo_is_durable, redo_is_durable_as, scn_at, target, tells_of, undo_bytes_at, undo_bytes_in, undo_is_durable, undo_left, without_undo, write_told, write_told_as, written_as, wrote_sent};
+ghost use Rattle.disk_steps.specs.Write.{adopted_cleaned, adopted_is_durable, block_written, bytes_as, bytes_to_write, cleaned_in, gives_frame, goes_before_report, goes_on_adopted, goes_on_or_leads, has_block, image_bytes, is_data_due, is_dirty_at, is_dirty_in, is_due, is_due_as, is_global, is_global_role, is_own_due, is_undo_waited_for, is_waited_for, leads, may_write_block, no_bytes, redo_is_durable, redo_is_durable_as, scn_at, target, tells_of, undo_bytes_at, undo_bytes_in, undo_is_durable, undo_left, without_undo, write_told, write_told_as, written_as, wrote_sent};
 
 use base_types::{BlockNo, InstNo, NoMemory};
 use block_image::DataBlock;
@@ -178,6 +178,12 @@ fn own_is_due(inst: &Inst, core: &Core, block: BlockNo) -> bool
     }
 }
 
+fn goes_on_adopted(inst: &Inst, core: &Core) -> bool
+    ensures { result ≡ goes_on_adopted inst.now core.now }
+{
+    leads(inst, core) || core.is_frozen()
+}
+
 /// Whether a dirty block is to be written, once its redo is on the disk.
 pub fn is_due(inst: &Inst, core: &Core, block: BlockNo) -> bool
     ensures { result ≡ is_due inst.now core.now block }
@@ -185,7 +191,7 @@ pub fn is_due(inst: &Inst, core: &Core, block: BlockNo) -> bool
     match target_of(inst, block) {
         Target::Data => is_data_due(inst, core, block),
         Target::Adopted(at) => {
-            leads(inst, core) && is_dirty_at(inst.leading.adopted.get(at), block)
+            goes_on_adopted(inst, core) && is_dirty_at(inst.leading.adopted.get(at), block)
         }
         Target::Own => own_is_due(inst, core, block),
     }
