@@ -1,21 +1,23 @@
 -- The command line of the program, as clap describes a command.
 use Rattle.std.specs.Prelude.{[], ◌∷◌, Bool, true, false, Some, codes}
-use Rattle.clap.specs.Words.{App, Rule, Shape, new_rule}
+use Rattle.clap.specs.Words.{App, Rule, Shape, Text, new_rule}
 use Rattle.clap.specs.Simple.{new_shape}
 use Rattle.clap.specs.declared.builder.action.ArgAction.TheVariants.{SetTrue}
 
--- the flag `--journal`
-abbrev pub journal_rule : Rule
-journal_rule = record (new_rule (codes "journal")) { long = Some (codes "journal"); action = Some SetTrue }
+-- the flag of a name, as `--journal`
+abbrev pub flag_rule : Text → Rule
+flag_rule name = record (new_rule name) { long = Some name; action = Some SetTrue }
 
 -- the option `--disk FOLDER`, which may have to be there
 abbrev pub disk_rule : Bool → Rule
 disk_rule is_required =
     record (new_rule (codes "disk")) { long = Some (codes "disk"); required = is_required }
 
--- `run [--journal] [--disk FOLDER]`
+-- `run [--journal] [--steps] [--check] [--disk FOLDER]`
 abbrev pub run_shape : Shape
-run_shape = record (new_shape (codes "run")) { rules = journal_rule ∷ disk_rule false ∷ [] }
+run_shape = record (new_shape (codes "run")) {
+  rules = flag_rule (codes "journal") ∷ flag_rule (codes "steps") ∷ flag_rule (codes "check") ∷ disk_rule false ∷ [];
+}
 
 -- `audit --disk FOLDER`
 abbrev pub audit_shape : Shape

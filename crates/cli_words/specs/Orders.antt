@@ -6,15 +6,24 @@ use Rattle.std.specs.Str.{bytes_eq}
 use Rattle.clap.specs.Words.{Row, Text, first_of, one_of, subcommand_of, takes}
 use Rattle.cli_words.specs.Command.{rac_app}
 use Rattle.cli_words.specs.declared.order.Order.{Order}
+use Rattle.cli_words.specs.declared.order.RunOptions.{RunOptions}
 use Rattle.cli_words.specs.declared.order.Order.TheVariants.{Run, Audit}
 
 -- the flag was used: the text that clap reads of it is `true`
 abbrev pub set_in : Text → List Row → Bool
 set_in id rows = option_map_or (λ text. bytes_eq text (codes "true")) (one_of id rows) false
 
+-- what a run is to do beside its report: a flag stands for each
+abbrev pub options_from : List Row → RunOptions
+options_from rows = record {
+  journal = set_in (codes "journal") rows;
+  steps = set_in (codes "steps") rows;
+  check = set_in (codes "check") rows;
+}
+
 -- `run`, by the matches of its arguments
 abbrev pub run_from : List Row → Order
-run_from rows = Run (set_in (codes "journal") rows) (first_of (codes "disk") rows)
+run_from rows = Run (options_from rows) (first_of (codes "disk") rows)
 
 -- `audit`, by the matches of its argument
 abbrev pub audit_from : List Row → Option Order

@@ -1,6 +1,6 @@
 ghost use Rattle.std.specs.Prelude.{◌≡◌, IfOk, false};
 ghost use Rattle.clap.specs.Words.{app_of, rule_of};
-ghost use Rattle.cli_words.specs.Command.{disk_rule, journal_rule, rac_app};
+ghost use Rattle.cli_words.specs.Command.{disk_rule, flag_rule, rac_app};
 
 use clap::{Arg, ArgAction, Command};
 use std::alloc::{AllocError, Global};
@@ -10,7 +10,9 @@ pub(crate) fn rac_command<'a>(alloc: Global) -> Result<Command<'a>, AllocError>
     ensures { IfOk result (λ command. app_of command ≡ rac_app) }
 {
     let run = Command::new(alloc, "run")
-        .arg(journal(alloc))?
+        .arg(flag(alloc, "journal"))?
+        .arg(flag(alloc, "steps"))?
+        .arg(flag(alloc, "check"))?
         .arg(disk(alloc, false))?;
     let audit = Command::new(alloc, "audit").arg(disk(alloc, true))?;
     Command::new(alloc, "rac")
@@ -22,13 +24,11 @@ pub(crate) fn rac_command<'a>(alloc: Global) -> Result<Command<'a>, AllocError>
         .subcommand(audit)
 }
 
-fn journal<'a>(alloc: Global) -> Arg<'a>
-    ensures rule { rule_of result ≡ journal_rule }
+fn flag<'a>(alloc: Global, name: &'a str) -> Arg<'a>
+    ensures rule { rule_of result ≡ flag_rule name.now }
     ensures local { result.global ≡ false }
 {
-    Arg::new(alloc, "journal")
-        .long("journal")
-        .action(ArgAction::SetTrue)
+    Arg::new(alloc, name).long(name).action(ArgAction::SetTrue)
 }
 
 fn disk<'a>(alloc: Global, is_required: bool) -> Arg<'a>

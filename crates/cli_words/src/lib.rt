@@ -13,5 +13,5 @@ mod tests;
 pub use error::WordsError;
 pub use folder::Folder;
 pub use laws::{taken_words_give_an_order, usual_words_are_read};
-pub use order::Order;
+pub use order::{Order, RunOptions};
 pub use reading::read_words;

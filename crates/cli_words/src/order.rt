@@ -1,11 +1,22 @@
 use crate::folder::Folder;
 
+/// What a run does beside its report.
+#[derive(Clone, Copy, Debug, PartialEq, Eq)]
+pub struct RunOptions {
+    /// The journal stands behind the report.
+    pub journal: bool,
+    /// The steps of the run stand behind that.
+    pub steps: bool,
+    /// The journal is checked before anything is written.
+    pub check: bool,
+}
+
 /// What the program is told to do.
 #[derive(Debug, Drop)]
 pub enum Order {
-    /// Run a script. With `journal` its report has the journal too; with `folder` the disk lies in that folder.
+    /// Run a script. With `folder` the disk lies in that folder.
     Run {
-        journal: bool,
+        options: RunOptions,
         folder: Option<Folder>,
     },
     /// Look over the disk that lies in the folder.

@@ -1,18 +1,18 @@
 ghost use Rattle.std.specs.Prelude.{◌≡◌, ◌↔◌, IfOk, IfErr, Some, None, Err, false, map, codes, string_bytes};
 ghost use Rattle.clap.specs.Words.{first_of, found_of, rows_of, takes};
 ghost use Rattle.cli_words.specs.Command.{rac_app};
-ghost use Rattle.cli_words.specs.Orders.{order_from, order_in, set_in};
+ghost use Rattle.cli_words.specs.Orders.{options_from, order_from, order_in, set_in};
 
 use crate::command::rac_command;
 use crate::error::WordsError;
 use crate::folder::Folder;
-use crate::order::Order;
+use crate::order::{Order, RunOptions};
 use clap::ArgMatches;
 use clap::error::ErrorKind;
 use std::alloc::Global;
 
-/// The order that the words give, those after the program's name: `run [--journal] [--disk FOLDER]` or
-/// `audit --disk FOLDER`. The flags stand in any order, each at most once, and a folder also as `--disk=FOLDER`: so
+/// The order that the words give, those after the program's name: `run [--journal] [--steps] [--check] [--disk FOLDER]`
+/// or `audit --disk FOLDER`. The flags stand in any order, each at most once, and a folder also as `--disk=FOLDER`: so
 /// alone where its name begins with `-`.
 ///
 /// # Errors
@@ -49,7 +49,7 @@ fn order_given(alloc: Global, name: &str, given: &ArgMatches) -> Result<Order, W
 {
     match name {
         "run" => Ok(Order::Run {
-            journal: is_set(given, "journal"),
+            options: options_given(given),
             folder: folder_given(alloc, given)?,
         }),
         "audit" => match folder_given(alloc, given)? {
@@ -57,6 +57,17 @@ fn order_given(alloc: Global, name: &str, given: &ArgMatches) -> Result<Order, W
             None => Err(WordsError::Usage),
         },
         _ => Err(WordsError::Usage),
+    }
+}
+
+/// What the run is to do beside its report.
+fn options_given(given: &ArgMatches) -> RunOptions
+    ensures { result ≡ options_from (rows_of (found_of given.now)) }
+{
+    RunOptions {
+        journal: is_set(given, "journal"),
+        steps: is_set(given, "steps"),
+        check: is_set(given, "check"),
     }
 }
 

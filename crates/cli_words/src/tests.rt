@@ -1,34 +1,51 @@
-use crate::{Order, WordsError, read_words};
+use crate::{Order, RunOptions, WordsError, read_words};
 use std::test::Fail;
 
 /// What the words are to give.
 #[derive(Clone, Copy)]
 enum Wanted<'a> {
-    Run(bool, Option<&'a str>),
+    Run(RunOptions, Option<&'a str>),
     Audit(&'a str),
     Usage,
 }
+
+const PLAIN: RunOptions = RunOptions {
+    journal: false,
+    steps: false,
+    check: false,
+};
+
+const WITH_JOURNAL: RunOptions = RunOptions {
+    journal: true,
+    ..PLAIN
+};
+
+const WITH_ALL: RunOptions = RunOptions {
+    journal: true,
+    steps: true,
+    check: true,
+};
 
 fn is_wanted(answer: &Result<Order, WordsError>, wanted: Wanted) -> bool {
     match (answer, wanted) {
         (
             Ok(
                 Order::Run {
-                    journal,
+                    options,
                     folder: None,
                 },
             ),
             Wanted::Run(asked, None),
-        ) => *journal == asked,
+        ) => *options == asked,
         (
             Ok(
                 Order::Run {
-                    journal,
+                    options,
                     folder: Some(folder),
                 },
             ),
             Wanted::Run(asked, Some(name)),
-        ) => { *journal == asked && folder.as_str() == name }
+        ) => { *options == asked && folder.as_str() == name }
         (Ok(Order::Audit { folder }), Wanted::Audit(name)) => folder.as_str() == name,
         (Err(WordsError::Usage), Wanted::Usage) => true,
         _ => false,
@@ -44,44 +61,72 @@ fn read(rt: &HostRuntime, line: &[&str]) -> Result<Result<Order, WordsError>, Fa
     Ok(read_words(alloc, words.as_slice()))
 }
 
-const TAKEN: [(&[&str], Wanted<'static>); 20] = [
-    (&["run"], Wanted::Run(false, None)),
-    (&["run", "--journal"], Wanted::Run(true, None)),
-    (&["run", "--disk", "d"], Wanted::Run(false, Some("d"))),
-    (&["run", "--disk=d"], Wanted::Run(false, Some("d"))),
+const TAKEN: [(&[&str], Wanted<'static>); 24] = [
+    (&["run"], Wanted::Run(PLAIN, None)),
+    (&["run", "--journal"], Wanted::Run(WITH_JOURNAL, None)),
+    (&["run", "--disk", "d"], Wanted::Run(PLAIN, Some("d"))),
+    (&["run", "--disk=d"], Wanted::Run(PLAIN, Some("d"))),
     (
         &["run", "--disk=d", "--journal"],
-        Wanted::Run(true, Some("d")),
+        Wanted::Run(WITH_JOURNAL, Some("d")),
     ),
     (
         &["run", "--disk", "d", "--journal"],
-        Wanted::Run(true, Some("d")),
+        Wanted::Run(WITH_JOURNAL, Some("d")),
     ),
     (
         &["run", "--journal", "--disk", "d"],
-        Wanted::Run(true, Some("d")),
+        Wanted::Run(WITH_JOURNAL, Some("d")),
+    ),
+    (
+        &["run", "--steps"],
+        Wanted::Run(
+            RunOptions {
+                steps: true,
+                ..PLAIN
+            },
+            None,
+        ),
+    ),
+    (
+        &["run", "--check", "--disk", "d"],
+        Wanted::Run(
+            RunOptions {
+                check: true,
+                ..PLAIN
+            },
+            Some("d"),
+        ),
+    ),
+    (
+        &["run", "--journal", "--steps", "--check"],
+        Wanted::Run(WITH_ALL, None),
+    ),
+    (
+        &["run", "--check", "--disk=d", "--steps", "--journal"],
+        Wanted::Run(WITH_ALL, Some("d")),
     ),
     (&["audit", "--disk", "d"], Wanted::Audit("d")),
     (&["audit", "--disk=d"], Wanted::Audit("d")),
     // a folder's name is any text that is no flag, and any text at all behind `=`
-    (&["run", "--disk", ""], Wanted::Run(false, Some(""))),
-    (&["run", "--disk="], Wanted::Run(false, Some(""))),
+    (&["run", "--disk", ""], Wanted::Run(PLAIN, Some(""))),
+    (&["run", "--disk="], Wanted::Run(PLAIN, Some(""))),
     (&["audit", "--disk="], Wanted::Audit("")),
-    (&["run", "--disk", "-"], Wanted::Run(false, Some("-"))),
-    (&["run", "--disk=-d"], Wanted::Run(false, Some("-d"))),
+    (&["run", "--disk", "-"], Wanted::Run(PLAIN, Some("-"))),
+    (&["run", "--disk=-d"], Wanted::Run(PLAIN, Some("-d"))),
     (
         &["run", "--disk=--journal"],
-        Wanted::Run(false, Some("--journal")),
+        Wanted::Run(PLAIN, Some("--journal")),
     ),
-    (&["run", "--disk=a=b"], Wanted::Run(false, Some("a=b"))),
-    (&["run", "--disk", "run"], Wanted::Run(false, Some("run"))),
+    (&["run", "--disk=a=b"], Wanted::Run(PLAIN, Some("a=b"))),
+    (&["run", "--disk", "run"], Wanted::Run(PLAIN, Some("run"))),
     (&["audit", "--disk", "a b"], Wanted::Audit("a b")),
     // `--` ends the flags, and nothing need follow it
-    (&["run", "--"], Wanted::Run(false, None)),
+    (&["run", "--"], Wanted::Run(PLAIN, None)),
     (&["audit", "--disk", "d", "--"], Wanted::Audit("d")),
 ];
 
-const REFUSED: [&[&str]; 36] = [
+const REFUSED: [&[&str]; 40] = [
     &[],
     &[""],
     &["walk"],
@@ -94,12 +139,16 @@ const REFUSED: [&[&str]; 36] = [
     &["audit", "--", "--disk", "d"],
     &["audit", "d"],
     &["audit", "--journal", "--disk", "d"],
+    &["audit", "--disk", "d", "--check"],
     &["audit", "--disk", "d", "--disk", "d"],
     &["run", "--jornal"],
     &["run", "--journa"],
     &["run", "--journal=yes"],
     &["run", "--journal", "yes"],
     &["run", "--journal", "--journal"],
+    &["run", "--steps", "--journal", "--steps"],
+    &["run", "--check", "--check"],
+    &["run", "--step"],
     &["run", "-j"],
     &["run", "--disk"],
     &["run", "--disk", "a", "--disk", "b"],

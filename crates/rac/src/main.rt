@@ -1,6 +1,7 @@
-//! `rac run [--journal] [--disk FOLDER]` runs the script on standard input and writes its report to standard output,
-//! with its disk in a folder, or else in memory. `rac audit --disk FOLDER` writes the history that the redo logs of a
-//! folder's disk tell.
+//! `rac run [--journal] [--steps] [--check] [--disk FOLDER]` runs the script on standard input by all its instances and
+//! writes its report to standard output, with its disk in a folder, or else in memory. The journal stands behind the
+//! report with `--journal`, the steps of the run behind that with `--steps`; with `--check` nothing is written where the
+//! journal isn't good. `rac audit --disk FOLDER` writes the history that the redo logs of a folder's disk tell.
 #![tactic(auto)]
 
 ghost use Rattle.std.specs.Prelude.{◌≡◌, [], ◌⊎◌};
@@ -20,7 +21,7 @@ fn words_given<R: Env + AllocGlobal>(rt: &R) -> io::Result<Vec<String>> {
 /// The exit where the words could not be had: for want of memory, or since one of them is no text.
 fn exit_without_words<R: AllocGlobal>(rt: &R, why: io::Error) -> Exit
     ensures end { (result.end ≡ End.NoMemory) ⊎ (result.end ≡ End.WrongWords) }
-    ensures silent { result.journal ≡ [] }
+    ensures silent { (result.journal ≡ []) × (result.book ≡ []) }
 {
     match why.kind() {
         io::ErrorKind::OutOfMemory => Exit::without_run(rt.alloc(), End::NoMemory),

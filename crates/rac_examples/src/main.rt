@@ -24,7 +24,9 @@ const LOG_BYTES: u64 = 65_536;
 const SINK_BYTES: usize = 65_536;
 
 /// The examples, by the names of their files.
-const EXAMPLES: [&str; 3] = ["first", "waves", "redo"];
+const EXAMPLES: [&str; 9] = [
+    "first", "waves", "redo", "ping", "reader", "remaster", "crash", "leader", "join",
+];
 
 /// The example whose redo is audited.
 const AUDITED: &str = "redo";
@@ -97,7 +99,7 @@ fn compare<R: Files + AllocGlobal + Print>(
     tell(rt, title, is_same)
 }
 
-/// Runs the script NAME.rac over a disk, and compares its report with NAME.out.
+/// Runs the script NAME.rac over a disk with its journal checked, and compares its report with NAME.out.
 fn run_example<R: Files + AllocGlobal + Print>(
     rt: &R,
     name: &str,
@@ -106,7 +108,14 @@ fn run_example<R: Files + AllocGlobal + Print>(
     let script_file = format!(in rt.alloc(); "{name}.rac")?;
     let report_file = format!(in rt.alloc(); "{name}.out")?;
     let script = fs::read(rt, script_file.as_str())?;
-    compare(rt, name, &["run"], script, disk, report_file.as_str())
+    compare(
+        rt,
+        name,
+        &["run", "--check"],
+        script,
+        disk,
+        report_file.as_str(),
+    )
 }
 
 /// Audits the disk that a run left, and compares the history that its redo tells with NAME.audit.

@@ -21,7 +21,7 @@ rule_text rules.Twice = codes "twice"
 -- the line that is told of an end; none where all was read, run and written
 abbrev pub line_of : End → Option (List ℕ)
 line_of ends.Done = None
-line_of ends.WrongWords = Some (codes "usage: rac run [--journal] [--disk FOLDER] | audit --disk FOLDER")
+line_of ends.WrongWords = Some (codes "usage: rac run [--journal] [--steps] [--check] [--disk FOLDER] | audit --disk FOLDER")
 line_of (ends.Refused line rule) = Some (codes "line " ++ (decimal line ++ (codes ": " ++ rule_text rule)))
 line_of ends.ReadFault = Some (codes "read fault")
 line_of ends.WriteFault = Some (codes "write fault")
@@ -29,4 +29,8 @@ line_of ends.NotCreated = Some (codes "disk fault")
 line_of ends.DiskFault = Some (codes "disk fault")
 line_of ends.LogsUnread = Some (codes "disk fault")
 line_of ends.NoMemory = Some (codes "no memory")
+line_of (ends.StepLimit limit) = Some (codes "step limit " ++ decimal limit)
 line_of (ends.BadLog thread place) = Some (codes "bad log " ++ (decimal thread ++ (codes " at " ++ decimal place)))
+line_of ends.BadDisk = Some (codes "bad disk")
+line_of ends.Stuck = Some (codes "stuck")
+line_of ends.NotGood = Some (codes "not good")

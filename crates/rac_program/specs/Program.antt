@@ -11,13 +11,13 @@ use Rattle.rac_top.specs.Runs.{Runs}
 
 -- the folder that an order names
 abbrev pub folder_in : Option Order → Option (List ℕ)
-folder_in (Some (Run journal folder)) = folder
+folder_in (Some (Run options folder)) = folder
 folder_in (Some (Audit folder)) = Some folder
 folder_in None = None
 
 -- Memory ran out before there was a disk: nothing was read, run or written.
 abbrev pub RanOut : Exit → Type 0 → Type 0 → Type 0
-RanOut exit SourceStays SinkStays = (exit.end ≡ NoMemory) × (exit.journal ≡ []) × SourceStays × SinkStays
+RanOut exit SourceStays SinkStays = (exit.end ≡ NoMemory) × (exit.journal ≡ []) × (exit.book ≡ []) × SourceStays × SinkStays
 
 -- The program ran or audited, as its words ask, over a disk that tells what it holds and had counted no failed call
 -- as it was opened; or its words were wrong; or memory ran out.
@@ -28,6 +28,6 @@ pub record Does (order : Option Order) (left left_now : Option (List ℕ)) (read
   pub tells : IsSome disk.told
   pub new : (disk.faults ≡ 0) × (disk.full ≡ 0)
   pub does : ByOrder order
-      (λ asked. Runs asked left left_now read read_now held held_now wrote wrote_now stalled stalled_now disk disk_now exit)
+      (λ options. Runs options left left_now read read_now held held_now wrote wrote_now stalled stalled_now disk disk_now exit)
       (Audits held held_now wrote wrote_now stalled stalled_now disk disk_now exit)
       ((exit.end ≡ WrongWords) ⊎ (exit.end ≡ NoMemory))

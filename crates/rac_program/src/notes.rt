@@ -7,7 +7,8 @@ use script_text::Rule;
 use std::alloc::{AllocError, Global};
 
 /// What the words may be.
-const USAGE: &str = "usage: rac run [--journal] [--disk FOLDER] | audit --disk FOLDER";
+const USAGE: &str =
+    "usage: rac run [--journal] [--steps] [--check] [--disk FOLDER] | audit --disk FOLDER";
 
 /// A rule as it is told.
 fn rule_word(rule: Rule) -> &'static str
@@ -45,9 +46,13 @@ pub fn note_line(alloc: Global, end: &End) -> Result<Option<String>, AllocError>
             Ok(Some(String::from_str(alloc, "disk fault")?))
         }
         End::NoMemory => Ok(Some(String::from_str(alloc, "no memory")?)),
+        End::StepLimit { limit } => Ok(Some(format!(in alloc; "step limit {limit}")?)),
         End::BadLog { thread, place } => {
             let thread = thread.get();
             Ok(Some(format!(in alloc; "bad log {thread} at {place}")?))
         }
+        End::BadDisk => Ok(Some(String::from_str(alloc, "bad disk")?)),
+        End::Stuck => Ok(Some(String::from_str(alloc, "stuck")?)),
+        End::NotGood => Ok(Some(String::from_str(alloc, "not good")?)),
     }
 }

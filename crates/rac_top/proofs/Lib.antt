@@ -1,3 +1,5 @@
-pub mod CreationLemmas
+pub mod LawLemmas
+pub mod RanLemmas
+pub mod WholeLemmas
 pub mod AuditLemmas
 pub mod ReadingLemmas

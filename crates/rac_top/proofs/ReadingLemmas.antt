@@ -6,7 +6,7 @@ use Rattle.script_text.specs.ScriptParts.{ScriptParts}
 use Rattle.script_text.specs.Reading.{reading}
 use Rattle.rac_top.specs.declared.exit.End.{End}
 use Rattle.rac_top.specs.Reads.{Says, SaysAll}
-use Rattle.rac_top.specs.Scripts.{IsAllOf, script_of, script_of_reading}
+use Rattle.rac_top.specs.Scripts.{IsAllOf}
 
 beginning-says : (most : ℕ) → ((text : List ℕ) → most ≤ length text → reading (take most text) ≡ reading text) → (text : List ℕ) → reading (take most text) ≡ reading text
 beginning-says most alike text = by_length (leb_tells most (length text))
@@ -17,10 +17,10 @@ beginning-says most alike text = by_length (leb_tells most (length text))
 
 -- so what was read of the beginning is what the whole text says
 pub whole-says : (most : ℕ) → ((text : List ℕ) → most ≤ length text → reading (take most text) ≡ reading text) → (left : Option (List ℕ)) (read : List ℕ) (result : Result ScriptParts End)
-    → IfSome left (λ all. read ≡ take most all) → Says result (script_of read) → SaysAll left result
+    → IfSome left (λ all. read ≡ take most all) → Says result (reading read) → SaysAll left result
 whole-says most alike None read result first says = record { text = read; all = tt; says = says }
 whole-says most alike (Some all) read result first says =
-    record { text = all; all = refl; says = subst (Says result) (ap script_of first ∙ ap script_of_reading (beginning-says most alike all)) says }
+    record { text = all; all = refl; says = subst (Says result) (ap reading first ∙ beginning-says most alike all) says }
 
 -- all that a source has left, or nothing where it doesn't tell
 pub all-left : (left : Option (List ℕ)) → IsAllOf left (unwrap_or left [])

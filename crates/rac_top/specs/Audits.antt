@@ -40,7 +40,7 @@ pub record Audits (held held_now : Option (List ℕ)) (wrote wrote_now stalled s
   -- it changes nothing, and runs nothing
   pub kept : IfSome disk.told (λ it. disk_now.told ≡ Some it)
   pub full : disk_now.full ≡ disk.full
-  pub no_run : exit.journal ≡ []
+  pub no_run : (exit.journal ≡ []) × (exit.book ≡ [])
   -- where nothing goes wrong all is done, or memory ran out
   pub completes : IsSomeAnd disk.told HasGoodLogs → Stayed disk.faults disk_now.faults → Stayed wrote wrote_now
       → Stayed stalled stalled_now → is_done exit.end ≡ true

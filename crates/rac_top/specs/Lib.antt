@@ -1,7 +1,10 @@
+pub mod Failures
+pub mod RunEnds
+pub mod RunTexts
 pub mod Ends
 pub mod Scripts
 pub mod Reads
-pub mod Creation
+pub mod Laws
 pub mod Runs
 pub mod Audits
 pub mod Calls

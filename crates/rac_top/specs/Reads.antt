@@ -1,8 +1,8 @@
 -- What was read, or why nothing was.
 use Rattle.std.specs.Prelude.{◌≡◌, ⊤, ℕ, List, Option, IfSome, Result, Ok, Err}
-use Rattle.script_text.specs.Reading.{Refusal}
+use Rattle.script_text.specs.Reading.{Refusal, reading}
 use Rattle.script_text.specs.ScriptParts.{ScriptParts}
-use Rattle.rac_top.specs.Scripts.{IsAllOf, script_of}
+use Rattle.rac_top.specs.Scripts.{IsAllOf}
 use Rattle.rac_top.specs.declared.exit.End.{End}
 use Rattle.rac_top.specs.declared.exit.End.TheVariants.{Refused, ReadFault, NoMemory}
 
@@ -22,4 +22,4 @@ Says (Err end) said = IsUnread end said
 pub record SaysAll (left : Option (List ℕ)) (result : Result ScriptParts End) : Type 0 where
   pub text : List ℕ
   pub all : IsAllOf left text
-  pub says : Says result (script_of text)
+  pub says : Says result (reading text)

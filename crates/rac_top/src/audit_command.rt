@@ -2,26 +2,13 @@ ghost use Rattle.std.specs.Prelude.{◌≡◌, [], ◌⊎◌, IfSome, IsSomeAnd,
 ghost use Rattle.rac_io.specs.Counts.{Counts, Rose};
 ghost use Rattle.rac_top.specs.Audits.{HasGoodLogs, WritesHistory, end_of};
 ghost use Rattle.rac_top.specs.Ends.{AuditEndsFor, Stayed, is_done, is_told};
-ghost use Rattle.rac_top.specs.Runs.{IsWritten, ReportEnds};
 
 use crate::exit::{End, Exit};
+use crate::writing::write_told;
 use log_audit::{AuditError, audit as audit_logs};
 use rac_disk::SharedDisk;
-use rac_io::{Sink, WriteFault, write_whole};
+use rac_io::Sink;
 use std::alloc::Global;
-
-/// Writes the text of an audit, and tells how the audit ends.
-fn write_text<K: Sink>(text: &[u8], sink: &mut K) -> End
-    ensures end { ReportEnds false result }
-    ensures written { IsWritten result text.now (K.holds sink.old) (K.holds sink.new) }
-    ensures cause { result ≡ End.WriteFault → Rose (K.faults sink.old) (K.faults sink.new) ⊎ Rose (K.stalls sink.old) (K.stalls sink.new) }
-{
-    match write_whole(sink, text) {
-        Ok(()) => End::Done,
-        Err(WriteFault::Failed) => End::WriteFault,
-        Err(WriteFault::Stalled) => End::WriteFault,
-    }
-}
 
 /// How an audit ends that told nothing.
 fn end_of(why: AuditError) -> End
@@ -50,14 +37,14 @@ pub fn audit<K: Sink, D: SharedDisk>(alloc: Global, sink: &mut K, disk: &mut D) 
     // It changes nothing, and runs nothing.
     ensures kept { IfSome (D.state disk.old).told (λ it. (D.state disk.new).told ≡ Some it) }
     ensures full { (D.state disk.new).full ≡ (D.state disk.old).full }
-    ensures no_run { result.journal ≡ [] }
+    ensures no_run { (result.journal ≡ []) × (result.book ≡ []) }
     // Where nothing goes wrong all is done, or memory ran out.
     ensures completes { IsSomeAnd (D.state disk.old).told HasGoodLogs → Stayed (D.state disk.old).faults (D.state disk.new).faults →
         Stayed (K.faults sink.old) (K.faults sink.new) → Stayed (K.stalls sink.old) (K.stalls sink.new) →
         is_done result.end ≡ true }
 {
     match audit_logs(alloc, disk) {
-        Ok(text) => Exit::without_run(alloc, write_text(text.as_slice(), sink)),
+        Ok(text) => Exit::without_run(alloc, write_told(End::Done, text.as_slice(), sink)),
         Err(why) => Exit::without_run(alloc, end_of(why)),
     }
 }

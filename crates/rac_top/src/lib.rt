@@ -2,13 +2,16 @@
 #![tactic(auto)]
 
 mod audit_command;
-mod creation;
 mod exit;
+mod failures;
 mod reading;
 mod run_command;
+mod run_end;
+mod run_text;
 #[cfg(test)]
 mod tests;
 mod top;
+mod writing;
 
 pub use audit_command::audit;
 pub use exit::{End, Exit};

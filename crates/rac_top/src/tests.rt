@@ -1,9 +1,8 @@
 use crate::{End, Exit, rac};
-use base_types::{InstNo, RowNo, Scn, Value, Xid};
+use base_types::{BlockNo, InstNo, Scn, Xid};
 use journal::{Entry, Journal};
-use journal_check::check;
 use log_history::{HistoryLine, history_of};
-use rac_disk::{CallKind, MemDisk, Planned, SharedDisk};
+use rac_disk::{CallKind, Failed, MemDisk, Planned, SharedDisk};
 use rac_io::{MemSink, MemSource};
 use script_text::Rule;
 use std::alloc::{AllocError, Global};
@@ -43,6 +42,8 @@ const FIRST_REPORT: &str = "3: changed\n4: committed\n5: rows 3=42\n";
 
 const SECOND: &str = "instances 1\nsession a on 0\na: put 0 1\na: commit\na: get 0\n";
 
+const SECOND_LOST: &str = "3: changed\n4: ORA-03113\n5: ORA-03114\n";
+
 const PART_OF_AN_APPEND: Planned = Planned {
     what: CallKind::Append,
     nth: 1,
@@ -71,7 +72,7 @@ fn call(rt: &HostRuntime, case: &Case) -> Result<(Exit, MemSink, MemDisk), Fail>
     Ok((exit, sink, disk))
 }
 
-const CASES: [Case<'static>; 23] = [
+const CASES: [Case<'static>; 25] = [
     RUN,
     Case {
         script: "go\ngo\n",
@@ -93,9 +94,23 @@ const CASES: [Case<'static>; 23] = [
         ..RUN
     },
     Case {
-        words: &["run", "--journal"],
+        words: &["run", "--journal", "--check"],
         script: "session a on 0\na: commit\na: put 0 -7\na: get 0",
         written: "2: committed\n3: changed\n4: rows 0=-7\nopened a 0\nstarted 2 a 0\nplain 2\nstarted 3 a 0\nchanged 3 0.0.1 0 absent -7\nstarted 4 a 0\nrows 4 0=-7\n",
+        ..RUN
+    },
+    Case {
+        words: &["run", "--steps"],
+        script: "instances 1\nsession a on 0\na: commit\n",
+        written: "3: committed\nstep 0 Enter 0\nstep 0 StartStmt 0\nstep 0 EndStmt 0\nstep 0 Leave 0\nstep 0 Wave 0\n",
+        ..RUN
+    },
+    Case {
+        words: &["run", "--check"],
+        script: "instances 2\nsession a on 0\nsession b on 1\na: put 0 1\na: commit\ngo\nb: get 0\n",
+        disk_fails: &[PART_OF_AN_APPEND],
+        end: End::DiskFault,
+        written: "4: changed\n5: ORA-03113\n7: rows none\n",
         ..RUN
     },
     Case {
@@ -178,14 +193,14 @@ const CASES: [Case<'static>; 23] = [
         script: SECOND,
         disk_fails: &[PART_OF_AN_APPEND],
         end: End::DiskFault,
-        written: "3: changed\n4: ORA-03113\n",
+        written: SECOND_LOST,
         ..RUN
     },
     Case {
         script: SECOND,
         log_bytes: 8,
         end: End::DiskFault,
-        written: "3: changed\n4: ORA-03113\n",
+        written: SECOND_LOST,
         ..RUN
     },
     Case {
@@ -276,7 +291,7 @@ fn a_failed_write_is_told(rt: HostRuntime) -> Result<(), Fail> {
 }
 
 #[test]
-fn nothing_runs_where_a_log_stays(rt: HostRuntime) -> Result<(), Fail> {
+fn nothing_runs_where_no_database_was_made(rt: HostRuntime) -> Result<(), Fail> {
     let (exit, _, _) = call(
         &rt,
         &Case {
@@ -324,11 +339,14 @@ fn commits_in(alloc: Global, journal: &Journal) -> Result<Vec<(Xid, Scn)>, Alloc
     Ok(commits)
 }
 
-/// The append of a change (236 bytes) and its commit (88) fails, having kept each number of bytes.
+/// What the append of a change (236 bytes) and its commit (88) keeps as it fails.
+const KEPT: [u32; 7] = [0, 1, 235, 236, 237, 323, 324];
+
+/// Whichever of its bytes an append keeps, the log tells the commits of the journal.
 #[test]
 fn the_log_tells_the_history_wherever_it_was_cut(rt: HostRuntime) -> Result<(), Fail> {
     let alloc = rt.alloc();
-    for keep in 0..=330 {
+    for keep in KEPT {
         let plan = [Planned {
             keep,
             ..PART_OF_AN_APPEND
@@ -336,6 +354,7 @@ fn the_log_tells_the_history_wherever_it_was_cut(rt: HostRuntime) -> Result<(), 
         let (exit, sink, mut disk) = call(
             &rt,
             &Case {
+                words: &["run", "--check"],
                 script: SECOND,
                 disk_fails: &plan,
                 ..RUN
@@ -347,20 +366,14 @@ fn the_log_tells_the_history_wherever_it_was_cut(rt: HostRuntime) -> Result<(), 
             &exit,
             &sink,
             &End::DiskFault,
-            "3: changed\n4: ORA-03113\n",
+            SECOND_LOST,
         );
-        assert!(rt; check(alloc, 32, &exit.journal)?, "keep {keep}");
         let commits = commits_in(alloc, &exit.journal)?;
         assert_eq!(rt; commits.len(), usize::from(keep >= 324), "keep {keep}");
         let (lines, torn) = read_history(&rt, &mut disk)?;
         assert_eq!(rt; lines.len(), commits.len(), "keep {keep}");
         for (line, commit) in lines.iter().zip(&commits) {
             assert_eq!(rt; (line.xid, line.commit_scn), *commit, "keep {keep}");
-            assert_eq!(rt;
-                line.changes.as_slice(),
-                [(RowNo(0), Value::Num(1))].as_slice(),
-                "keep {keep}"
-            );
         }
         let end = match keep {
             1..=235 => Some(0),
@@ -369,6 +382,77 @@ fn the_log_tells_the_history_wherever_it_was_cut(rt: HostRuntime) -> Result<(), 
         };
         assert_eq!(rt; torn.first().map(|place| place.1), end, "keep {keep}");
     }
+    Ok(())
+}
+
+/// A disk that doesn't tell what it holds: each block is bytes that no run left, and nothing else is there.
+#[derive(Drop)]
+struct HostileDisk;
+
+impl SharedDisk for HostileDisk {
+    ghost use Rattle.std.specs.Prelude.{None};
+
+    ghost state = { λ _. record { told = None; faults = 0; full = 0 } };
+
+    fn read_block(&mut self, _b: BlockNo, out: &mut [u8; 512]) -> Result<(), Failed> {
+        *out = [255; 512];
+        Ok(())
+    }
+
+    fn write_block(&mut self, _b: BlockNo, _bytes: &[u8; 512]) -> Result<(), Failed> {
+        Ok(())
+    }
+
+    fn append(&mut self, _t: InstNo, _bytes: &[u8]) -> Result<(), Failed> {
+        Ok(())
+    }
+
+    fn cut_log(&mut self, _t: InstNo, _len: u64) -> Result<(), Failed> {
+        Ok(())
+    }
+
+    fn log_len(&mut self, _t: InstNo) -> Result<u64, Failed> {
+        Ok(0)
+    }
+
+    fn read_log(&mut self, _t: InstNo, _at: u64, _out: &mut [u8]) -> Result<usize, Failed> {
+        Ok(0)
+    }
+
+    fn read_control(&mut self, _t: InstNo, out: &mut [u8; 32]) -> Result<(), Failed> {
+        *out = [0; 32];
+        Ok(())
+    }
+
+    fn write_control(&mut self, _t: InstNo, _bytes: &[u8; 32]) -> Result<(), Failed> {
+        Ok(())
+    }
+
+    fn full(&self) -> u64 {
+        0
+    }
+
+    fn faults(&self) -> u64 {
+        0
+    }
+}
+
+#[test]
+fn content_that_no_run_left_is_told(rt: HostRuntime) -> Result<(), Fail> {
+    let alloc = rt.alloc();
+    let mut words = Vec::new(alloc);
+    words.push(String::from_str(alloc, "run")?)?;
+    let script = "instances 1\nsession a on 0\na: get 0\n";
+    let mut source = MemSource::new(script.as_bytes().to_vec(alloc)?, Vec::new(alloc));
+    let mut sink = MemSink::new(alloc, 1000, Vec::new(alloc))?;
+    let exit = rac(
+        alloc,
+        words.as_slice(),
+        &mut source,
+        &mut sink,
+        &mut HostileDisk,
+    );
+    look(&rt, 0, &exit, &sink, &End::BadDisk, "3: ORA-03113\n");
     Ok(())
 }
 

@@ -24,20 +24,20 @@ pub fn rac<S: Source, K: Sink, D: SharedDisk>(
 ) -> Exit
     // Words that ask a run make a run, and words that ask an audit make an audit. Other words are wrong.
     ensures does { ByOrder (order_in (map string_bytes words.now))
-        (λ asked. Runs asked (S.left source.old) (S.left source.new) (S.faults source.old) (S.faults source.new)
+        (λ options. Runs options (S.left source.old) (S.left source.new) (S.faults source.old) (S.faults source.new)
         (K.holds sink.old) (K.holds sink.new) (K.faults sink.old) (K.faults sink.new) (K.stalls sink.old) (K.stalls sink.new)
         (D.state disk.old) (D.state disk.new) result)
         (Audits (K.holds sink.old) (K.holds sink.new) (K.faults sink.old) (K.faults sink.new) (K.stalls sink.old) (K.stalls sink.new)
         (D.state disk.old) (D.state disk.new) result)
         ((result.end ≡ End.WrongWords) ⊎ (result.end ≡ End.NoMemory)) }
     // An audit reads nothing of the source; wrong words touch nothing.
-    ensures unread { ByOrder (order_in (map string_bytes words.now)) (λ asked. Unit {0}) (source.new ≡ source.old)
+    ensures unread { ByOrder (order_in (map string_bytes words.now)) (λ options. Unit {0}) (source.new ≡ source.old)
         ((source.new ≡ source.old) × (disk.new ≡ disk.old)) }
     // Where nothing was to be told, nothing was written.
-    ensures silent { is_told result.end ≡ false → (result.journal ≡ []) × (sink.new ≡ sink.old) }
+    ensures silent { is_told result.end ≡ false → (result.journal ≡ []) × (result.book ≡ []) × (sink.new ≡ sink.old) }
 {
     match read_words(alloc, words) {
-        Ok(Order::Run { journal, folder: _ }) => run(alloc, journal, source, sink, disk),
+        Ok(Order::Run { options, folder: _ }) => run(alloc, options, source, sink, disk),
         Ok(Order::Audit { folder: _ }) => audit(alloc, sink, disk),
         Err(WordsError::Usage) => Exit::without_run(alloc, End::WrongWords),
         Err(WordsError::NoMemory) => Exit::without_run(alloc, End::NoMemory),

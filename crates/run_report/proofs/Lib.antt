@@ -5,4 +5,3 @@ mod EndSteps
 mod Wholes
 mod Members
 mod Counting
-mod Reversed

@@ -1,6 +1,6 @@
 -- The lines that tell a journal, entry by entry.
-use Rattle.std.specs.Prelude.{ℕ, ◌<◌, ◌==◌, if◌then◌else◌, List, [], IfSome, codes}
-use Rattle.std.specs.Prelude.{decimal, flat_map, length, slice_get, unwrap_or}
+use Rattle.std.specs.Prelude.{ℕ, ◌==◌, if◌then◌else◌, List, [], codes}
+use Rattle.std.specs.Prelude.{decimal, flat_map, slice_get, unwrap_or}
 use Rattle.std.specs.Int.{bit_at}
 use Rattle.std.specs.List.{range_with_len}
 use Rattle.std.specs.Option.{option_map_or}
@@ -13,11 +13,7 @@ use Rattle.script_text.specs.Lines.{session_in}
 use Rattle.script_text.specs.ScriptParts.{ScriptParts}
 use Rattle.run_report.specs.Texts.{◌⧺◌, rows_text, cause_text}
 
--- The script has the session that an entry names.
-abbrev pub HasSession : ScriptParts → Entry → Type 0
-HasSession script entry = IfSome (session_in entry) (λ session. session < length script.names)
-
--- The name of the session that an entry names; nothing where it names none.
+-- The name of the session that an entry names; nothing where it names none, or none that the script has.
 abbrev pub name_of : ScriptParts → Entry → List ℕ
 name_of script entry = option_map_or (λ session. unwrap_or (slice_get script.names session) []) (session_in entry) []
 

@@ -1,5 +1,5 @@
-ghost use Rattle.std.specs.Prelude.{All, flat_map, ◌≡◌, ◌++◌, ◌<◌, OnOk, Some, string_bytes};
-ghost use Rattle.run_report.specs.Journals.{HasSession, entry_text, inst_text, journal_line, member_text, members_text, name_of, xid_entry_text};
+ghost use Rattle.std.specs.Prelude.{flat_map, ◌≡◌, ◌++◌, ◌<◌, [], OnOk, Some, slice_get, string_bytes, unwrap_or};
+ghost use Rattle.run_report.specs.Journals.{entry_text, inst_text, journal_line, member_text, members_text, name_of, xid_entry_text};
 
 use crate::texts::{CauseText, RowsText};
 use base_types::NoMemory;
@@ -13,7 +13,6 @@ pub(crate) fn push_lines(
     script: &Script,
     journal: &[Entry],
 ) -> Result<(), NoMemory>
-    requires { All (HasSession script.now) journal.now }
     ensures { OnOk result (string_bytes text.new ≡ string_bytes text.old ++ flat_map (journal_line script.now) journal.now) }
 {
     for entry in journal {
@@ -24,7 +23,6 @@ pub(crate) fn push_lines(
 
 /// Adds the line that tells an entry.
 fn push_line(text: &mut String, script: &Script, entry: &Entry) -> Result<(), NoMemory>
-    requires { HasSession script.now entry.now }
     ensures { OnOk result (string_bytes text.new ≡ string_bytes text.old ++ journal_line script.now entry.now) }
 {
     let name = name_of(script, entry);
@@ -34,14 +32,24 @@ fn push_line(text: &mut String, script: &Script, entry: &Entry) -> Result<(), No
 }
 
 fn name_of<'a>(script: &'a Script, entry: &Entry) -> &'a str
-    requires { HasSession script.now entry.now }
     ensures { result.now ≡ name_of script.now entry.now }
 {
     match entry {
         Entry::Opened { session, .. } | Entry::Started { session, .. } => {
-            script.session_name(*session)
+            session_name(script, *session)
         }
         _ => "",
+    }
+}
+
+/// The name of a session, by its number; nothing where the script has no such session.
+fn session_name(script: &Script, session: u16) -> &str
+    ensures { result.now ≡ unwrap_or (slice_get script.now.names session) [] }
+{
+    if (session as usize) < script.sessions() {
+        script.session_name(session)
+    } else {
+        ""
     }
 }
 

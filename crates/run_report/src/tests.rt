@@ -1,6 +1,3 @@
-ghost use Rattle.std.specs.Prelude.{◌↔◌, All, IsTrue};
-ghost use Rattle.run_report.specs.Journals.{HasSession};
-
 use crate::told::tell_waves;
 use crate::{report, summary};
 use base_types::{BlockNo, InstNo, NoMemory, RowNo, Scn, Sequence, Value, Xid};
@@ -390,29 +387,6 @@ const SUMMARY: &str = "statements 24\n\
     refused 11\n\
     sum -9223372036854775738\n";
 
-fn has_session(script: &Script, entry: &Entry) -> bool
-    ensures { IsTrue result ↔ HasSession script.now entry.now }
-{
-    match entry {
-        Entry::Opened { session, .. } | Entry::Started { session, .. } => {
-            (*session as usize) < script.sessions()
-        }
-        _ => true,
-    }
-}
-
-fn have_sessions(script: &Script, entries: &[Entry]) -> bool
-    ensures { IsTrue result ↔ All (HasSession script.now) entries.now }
-{
-    entries.iter().all(|entry| has_session(script, entry))
-}
-
-fn has_sessions(script: &Script, journal: &Journal) -> bool
-    ensures { IsTrue result → All (HasSession script.now) journal.now }
-{
-    have_sessions(script, journal.as_slice())
-}
-
 /// The name of a savepoint.
 fn savepoint(alloc: Global) -> Result<Name, NoMemory> {
     match Name::new(alloc, b"s1".as_slice())? {
@@ -483,7 +457,6 @@ fn a_journal_is_told(rt: HostRuntime) -> Result<(), Fail> {
     let told = tell_waves(alloc, waves.as_slice(), &journal)?;
     assert_eq!(rt; told.as_str(), ANSWERS);
     let script = read_script(alloc, SCRIPT)?;
-    assert!(rt; has_sessions(&script, &journal));
     let told = report(alloc, &script, &journal, true)?;
     assert_eq!(rt; told.as_slice(), REPORT.as_bytes());
     let told = summary(alloc, &journal)?;

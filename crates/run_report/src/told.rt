@@ -1,10 +1,9 @@
-ghost use Rattle.std.specs.Prelude.{All, ◌≡◌, ℕ, ◌++◌, IfOk, OnOk, None, nat_eq, option_map, reverse, string_bytes};
+ghost use Rattle.std.specs.Prelude.{◌≡◌, ℕ, ◌++◌, IfOk, OnOk, None, nat_eq, option_map, reverse, string_bytes};
 ghost use Rattle.std.specs.HashMap.{get};
 ghost use Rattle.std.specs.List.{position_from};
 ghost use Rattle.run_report.specs.Answers.{answers};
 ghost use Rattle.run_report.specs.Ends.{is_ended};
 ghost use Rattle.run_report.specs.Found.{kept};
-ghost use Rattle.run_report.specs.Journals.{HasSession};
 ghost use Rattle.run_report.specs.Reports.{answers_text, line_answer, report_text, said, wave_text};
 ghost use Rattle.run_report.specs.Words.{words_of};
 
@@ -26,7 +25,6 @@ pub fn report(
     journal: &Journal,
     with_journal: bool,
 ) -> Result<Vec<u8>, NoMemory>
-    requires { All (HasSession script.now) journal.now }
     ensures { IfOk result (λ text. text.items ≡ report_text script.now journal.now with_journal) }
 {
     let waves = script.waves().as_slice();

@@ -9,14 +9,11 @@ returns-in-Ok-Run-clause-does g c =
       read_fault = c.run.ensures.read_fault;
       reads = c.run.ensures.reads;
       ran = c.run.ensures.ran;
-      silent = λ no. ((c.run.ensures.silent no).0, ap g.K.Sink.holds (c.run.ensures.silent no).1);
+      not_good = c.run.ensures.not_good;
+      silent = λ no. ((c.run.ensures.silent no).0, (c.run.ensures.silent no).1, ap g.K.Sink.holds (c.run.ensures.silent no).2);
       untouched = λ no. ap g.D.SharedDisk.state (c.run.ensures.untouched no);
       uncreated = c.run.ensures.uncreated;
-      kept = c.run.ensures.kept;
       calm = c.run.ensures.calm;
-      redo = c.run.ensures.redo;
-      ends = c.run.ensures.ends;
-      full = c.run.ensures.full;
       completes = c.run.ensures.completes;
     })
 

@@ -1,0 +1,17 @@
+pub mod Added
+pub mod Counts
+pub mod EndLists
+pub mod EndSteps
+pub mod EndsByKind
+pub mod Folds
+pub mod Losses
+pub mod Named
+pub mod NamedByKind
+pub mod Plans
+pub mod RunEnds
+pub mod RunLemmas
+pub mod RunSessions
+pub mod Sent
+pub mod Sums
+pub mod Told
+pub mod ToldByKind
