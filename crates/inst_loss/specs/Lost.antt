@@ -1,6 +1,7 @@
 -- What an instance has that has ended.
 use Rattle.std.specs.Prelude.{if◌then◌else◌, false, [], map, None, replicate}
 use Rattle.buffer_cache.specs.Cache.{empty_cache}
+use Rattle.undo_segment.specs.Dirty.{all_clean}
 use Rattle.resource_dir.specs.Directory.{no_buckets}
 use Rattle.inst_state.specs.declared.inst.Begun.{Begun}
 use Rattle.inst_state.specs.declared.inst.Inst.{Inst}
@@ -40,14 +41,15 @@ lost_leading = record {
   recovering = record { epoch = 0; threads = []; versions = []; rebuilt = [] };
 }
 
--- The part of an instance that has ended: what it had in memory is lost. Its clock, its thread and its segment are made anew
--- as it comes up again.
+-- The part of an instance that has ended: what it had in memory is lost, and of its segment nothing is dirty. Its clock, its
+-- thread and its segment are made anew as it comes up again.
 abbrev pub lost : Inst → Inst
 lost n = record n {
   life = Down;
   paused = false;
   made = [];
   ends = [];
+  segment = all_clean n.segment;
   cache = empty_cache n.plan.frames n.plan.blocks;
   mastering = lost_mastering n.mastering;
   sessions = map lost_session n.sessions;

@@ -21,6 +21,7 @@ fn clear(alloc: Global, inst: &mut Inst) -> Result<(), NoMemory>
     inst.paused = false;
     inst.made.clear();
     inst.ends.clear();
+    inst.segment.forget_dirty();
     inst.cache = cache;
     lose_mastering(&mut inst.mastering);
     lose_sessions(alloc, &mut inst.sessions);

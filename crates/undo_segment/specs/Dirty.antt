@@ -1,5 +1,5 @@
 -- What of a segment the disk may not have.
-use Rattle.std.specs.Prelude.{ℕ, ◌-◌, ◌==◌, min, Bool, if◌then◌else◌, List, Option, None, Some, fold, is_some, slice_set}
+use Rattle.std.specs.Prelude.{ℕ, ◌-◌, ◌==◌, min, Bool, if◌then◌else◌, List, Option, None, Some, fold, is_some, length, replicate, slice_set}
 use Rattle.undo_image.specs.Header.{header_bytes}
 use Rattle.undo_image.specs.UndoBlock.{undo_bytes}
 use Rattle.undo_segment.specs.Segment.{SegmentState, ring_block, since_at}
@@ -21,6 +21,10 @@ is_dirty own k = is_some (since_at own k)
 -- the segment once the block with this place in it was written
 abbrev pub cleaned : SegmentState → ℕ → SegmentState
 cleaned own k = record own { since = slice_set own.since k None }
+
+-- the segment with nothing noted as dirty
+abbrev pub all_clean : SegmentState → SegmentState
+all_clean own = record own { since = replicate (length own.since) None }
 
 -- the bytes of the block with this place in the segment
 abbrev pub bytes_of : SegmentState → ℕ → List ℕ

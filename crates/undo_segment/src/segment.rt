@@ -3,7 +3,7 @@ ghost use Rattle.base_types.specs.Layout.{segment_blocks, undo_block_of};
 ghost use Rattle.std.specs.List.{list_all, position};
 ghost use Rattle.redo_record.specs.Redo.{IsHeadChange, IsRedo, IsUndoChange};
 ghost use Rattle.undo_segment.specs.Apply.{applied, dirtied, head_applied, ring_place, undo_applied, version_of};
-ghost use Rattle.undo_segment.specs.Dirty.{bytes_of, cleaned, earlier, first_dirty, is_dirty};
+ghost use Rattle.undo_segment.specs.Dirty.{all_clean, bytes_of, cleaned, earlier, first_dirty, is_dirty};
 ghost use Rattle.undo_segment.specs.Begin.{active_count, began_first, began_no_later, ended_first, ended_no_later, next_xid, oldest, room};
 ghost use Rattle.undo_segment.specs.New.{clean_segment};
 ghost use Rattle.undo_segment.specs.Segment.{IsSegment, fetch, fetch_own, header_for, look, own_block_for, ring_block, undo_block_for};
@@ -268,6 +268,14 @@ impl Segment {
         ensures { self.new ≡ cleaned self.old k }
     {
         self.since[usize::from(k)] = None;
+    }
+
+    /// Forgets which blocks are dirty, as the instance has ended whose segment it is: what is in memory is lost, and won't
+    /// be written.
+    pub fn forget_dirty(&mut self)
+        ensures { self.new ≡ all_clean self.old }
+    {
+        self.since.fill(None);
     }
 
     /// Writes the bytes of the block with this place in the segment, 0 for the header.

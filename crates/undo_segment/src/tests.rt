@@ -232,6 +232,10 @@ fn eight_records_fill_two_blocks(rt: HostRuntime) -> Result<(), Fail> {
     for (k, want) in [(2, Some(RedoAt(90))), (1, Some(RedoAt(300))), (0, None)] {
         assert_eq!(rt; clean(&rt, &mut own, k), want);
     }
+    put_ended(&rt, &mut own, 0, 0);
+    assert_eq!(rt; own.first_dirty(), Some(RedoAt(300)));
+    own.forget_dirty();
+    assert_eq!(rt; own.first_dirty(), None);
     Ok(())
 }
 
