@@ -28,7 +28,7 @@ use Rattle.protocol_ties.proofs.Links.{same-over, sent-comes-in, taken-has-gone}
 use Rattle.protocol_ties.proofs.Among.{message-is-taken-among-all}
 use Rattle.protocol_ties.proofs.Directories.{directory-takes-at-one}
 
-same-sym : {A : Type 0} (xs ys : List A) → Same xs ys → Same ys xs
+pub same-sym : {A : Type 0} (xs ys : List A) → Same xs ys → Same ys xs
 same-sym xs ys none = none
 same-sym xs ys (more x us vs ws t s) = put-both x ys ws (x ∷ us) us t (here us) (same-sym us ws s)
 

@@ -31,7 +31,7 @@ gather-same f zero one other same = refl
 gather-same f (suc n) one other same = let rest = gather-same f n one other same in let here = same n in rw (rest, here) refl
 
 -- a request that comes where none was
-came-to : (n i : ℕ) (request : ℕ → Request) (r : Request) (w : Wire) → i < n → of_request i r ≡ w ∷ [] → Takes w (gather of_request n (put request i r)) (gather of_request n (put request i Quiet))
+pub came-to : (n i : ℕ) (request : ℕ → Request) (r : Request) (w : Wire) → i < n → of_request i r ≡ w ∷ [] → Takes w (gather of_request n (put request i r)) (gather of_request n (put request i Quiet))
 came-to n i request r w lt one =
     subst (λ l. Takes w (gather of_request n (put request i r)) l) (gather-same of_request n (put (put request i r) i Quiet) (put request i Quiet) twice)
     (gather-taken of_request n i (put request i r) Quiet w lt (rw (put-same request i r) one) refl)

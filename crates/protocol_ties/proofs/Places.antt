@@ -44,7 +44,7 @@ no-image : (hold : Hold) (o : Option Hold) → o ≡ Some hold → o ≡ None �
 no-image hold o some none = none-some o hold none some
 
 -- the mode and the grant of an image that is held
-grant-of : (m : HoldMode) (g : ℕ) (k : Hold) → hold_of m g ≡ Some k → g ≡ k.grant
+pub grant-of : (m : HoldMode) (g : ℕ) (k : Hold) → hold_of m g ≡ Some k → g ≡ k.grant
 grant-of modes.Null g k e = absurd (let clash : ◌≡◌ {A = Option Hold} None (Some k) = e in cc)
 grant-of modes.Shared g k e = ap (λ h. h.grant) (some-one (record { mode = Shared; grant = g }) k e)
 grant-of modes.Exclusive g k e = ap (λ h. h.grant) (some-one (record { mode = Exclusive; grant = g }) k e)

@@ -1,0 +1,5 @@
+pub mod HolderRuns
+pub mod Shown
+pub mod Holders
+pub mod Own
+pub mod HolderTurns
