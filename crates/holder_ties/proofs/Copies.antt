@@ -100,7 +100,7 @@ copy-comes-back me from to scn grant reader links h block_no entry block is come
     block.floor block.served refl
 
 pub copy-is-served : CopyIsServed
-copy-is-served me from scn grant reader now links h block_no entry block is comes there held number forced =
+copy-is-served me from scn grant reader now links h block_no entry block is comes held number forced =
     let bound : ℕ = (raised me scn block).clock me in
     let image = one-held block h.places me now is.around.images held in
     let r : Request = Copy (block.version me) bound bound in
@@ -108,7 +108,7 @@ copy-is-served me from scn grant reader now links h block_no entry block is come
     let message : Message = messages.CopyTo block_no grant reader in
     let it = asked me from scn links h block_no entry block is message grant reader refl comes refl in
     let step = serves_copy (raised me scn block) reader me grant image.0 it.1 image.1 forced in
-    answers-reader me from scn links h block_no entry block is message grant reader refl comes refl reader (messages.Copy now.image (clock_then me scn h)) r (CopyWire reader (block.version me) bound bound) _ there (ap Some number)
+    answers-reader me from scn links h block_no entry block is message grant reader refl comes refl reader (messages.Copy now.image (clock_then me scn h)) r (CopyWire reader (block.version me) bound bound) _ it.0 (ap Some number)
     (ap Some (rw ((is.around.images me).numbered now held, sym (risen-clock me scn h block is.around)) refl)) refl refl
     (goes step refl (stays _))
     floor (record { inst = me; grant = image.0.grant; scn = bound } ∷ block.served) refl

@@ -6,3 +6,4 @@ pub mod Pasts
 pub mod Installs
 pub mod Own
 pub mod Turns
+pub mod Beside

@@ -57,6 +57,11 @@ put-back block places i are j =
 hold-by-parts : (shared is : Bool) (grant of : ℕ) → shared ≡ is → grant ≡ of → shipped_hold shared grant ≡ shipped_hold is of
 hold-by-parts shared is grant of a b = rw (a, b) refl
 
+-- who is granted is one of the instances
+pub asker-numbered : (o : Option Operation) (a : ℕ) (k : Hold) (c : Carrier) (lists : Listing) → IsOperation o (Grants a k c) lists → a < instances
+asker-numbered None a k c lists t = absurd t
+asker-numbered (Some op) a k c lists t = t.instance
+
 module _ (me from scn : ℕ) (links : List (List Packet)) (h : Holdings) (block_no : BlockNo) (entry : Entry) (block : Block)
     (is : IsShown links h block_no entry block) (message : Message) (about : block_of message ≡ Some block_no) (comes : Comes me from links scn message)
     (grant : GrantNo) (asker : Inst) (granted : Hold) (order : wire_of me scn message ≡ Some (ShipToWire me grant asker granted)) where
@@ -97,12 +102,15 @@ module _ (me from scn : ℕ) (links : List (List Packet)) (h : Holdings) (block_
       is.shows.requests
       (stays-around me scn h block (record (raised me scn block) { op = Grants asker granted (BackShip grant bound) }) h.places is.around is.around.images (λ i. refl) (still-served (BackShip grant bound) (λ i n. n)) refl refl refl refl) tt
 
-  pub goes-out : (now : Current) (shipment : Shipment) (later : Inst → Place) → asker < instances → (h.places me).current ≡ Some now → IsForced block me → IsOfImage shipment block_no granted.grant now → shipped_hold shipment.shared shipment.grant ≡ granted
+  there : asker < instances
+  there = asker-numbered entry.op asker granted (ShipTo me grant) block.lists (subst (λ o. IsOperation entry.op o block.lists) ordered.0 is.shows.tied.operation)
+
+  pub goes-out : (now : Current) (shipment : Shipment) (later : Inst → Place) → (h.places me).current ≡ Some now → IsForced block me → IsOfImage shipment block_no granted.grant now → shipped_hold shipment.shared shipment.grant ≡ granted
       → ((i : Inst) → (later i).asked ≡ (h.places i).asked)
       → ((hold : Hold) (image : block.frame me ≡ Some hold) (forced : IsForced (raised me scn block) me)
       → ArePlaces later (record (raised me scn block) { frame = left_at block.frame me granted.mode; past = past_kept block.past me granted.mode (block.dirty me) (block.version me); op = Grants asker granted (Shipped (block.version me) (block.dirty me) ((raised me scn block).clock me)) }))
       → GoesOn me scn links (answered me from asker clock (messages.Shipped shipment) links) (record (risen me scn h) { places = later }) block_no entry block
-  goes-out now shipment later there held forced of same asked images =
+  goes-out now shipment later held forced of same asked images =
       let bound : ℕ = (raised me scn block).clock me in
       let image = one-held block h.places me now is.around.images held in
       let carrier : Carrier = Shipped (block.version me) (block.dirty me) bound in
@@ -130,18 +138,18 @@ share-comes-back me from to scn grant new_grant asker links h block_no entry blo
     to (messages.Back (unfound.ShareTo block_no grant new_grant asker)) there refl (λ c. refl) none
 
 pub image-is-shipped : ImageIsShipped
-image-is-shipped me from scn grant new_grant asker now shipment links h block_no entry block is comes there held forced of alone =
+image-is-shipped me from scn grant new_grant asker now shipment links h block_no entry block is comes held forced of alone =
     let granted : Hold = record { mode = Exclusive; grant = new_grant } in
-    goes-out me from scn links h block_no entry block is (messages.ShipTo block_no grant new_grant asker) refl comes grant asker granted refl now shipment (put h.places me (given_up (h.places me))) there held forced of
+    goes-out me from scn links h block_no entry block is (messages.ShipTo block_no grant new_grant asker) refl comes grant asker granted refl now shipment (put h.places me (given_up (h.places me))) held forced of
     (hold-by-parts shipment.shared false shipment.grant new_grant alone of.granted) (asked-stays h.places me (given_up (h.places me)) refl)
     (λ hold image done.
     cache-ships (raised me scn block) h.places asker granted me grant hold
     (ordered me from scn links h block_no entry block is (messages.ShipTo block_no grant new_grant asker) refl comes grant asker granted refl).0 image done is.around.images)
 
 pub image-is-shared : ImageIsShared
-image-is-shared me from scn grant new_grant asker now shipment links h block_no entry block is comes there held forced of shared =
+image-is-shared me from scn grant new_grant asker now shipment links h block_no entry block is comes held forced of shared =
     let granted : Hold = record { mode = Shared; grant = new_grant } in
-    goes-out me from scn links h block_no entry block is (messages.ShareTo block_no grant new_grant asker) refl comes grant asker granted refl now shipment h.places there held forced of
+    goes-out me from scn links h block_no entry block is (messages.ShareTo block_no grant new_grant asker) refl comes grant asker granted refl now shipment h.places held forced of
     (hold-by-parts shipment.shared true shipment.grant new_grant shared of.granted) (λ i. refl)
     (λ hold image done.
     let after : Block = record (raised me scn block) { op = Grants asker granted (Shipped (block.version me) (block.dirty me) ((raised me scn block).clock me)) } in

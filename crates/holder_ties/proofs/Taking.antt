@@ -165,7 +165,7 @@ module _ (me from scn : ℕ) (message : Message) (links : List (List Packet)) (h
       (same-over (wire ∷ bag_of block_no left) (bag_of block_no links) (pleas_of entry.queue) gone) is.shows.messages
 
   -- of another block nothing is taken
-  others-taken : (other : BlockNo) → other ≢ block_no → Same (bag_of other links) (bag_of other left)
+  pub others-taken : (other : BlockNo) → other ≢ block_no → Same (bag_of other links) (bag_of other left)
   others-taken other ne =
       same-sym (bag_of other left) (bag_of other links)
       (subst (λ (l : List Wire). Same (l ++ bag_of other left) (bag_of other links)) (wires-there block_no other me scn message about ne)

@@ -48,14 +48,14 @@ pub record IsOfImage (shipment : Shipment) (block_no : BlockNo) (grant : GrantNo
 -- An exclusive image moves to its asker once the redo on it is on the disk.
 abbrev pub ImageIsShipped : Type 0
 ImageIsShipped = (me from : Inst) (scn : Scn) (grant new_grant : GrantNo) (asker : Inst) (now : Current) (shipment : Shipment) (links : List (List Packet)) (h : Holdings) (block_no : BlockNo) (entry : Entry) (block : Block)
-    → IsShown links h block_no entry block → Comes me from links scn (messages.ShipTo block_no grant new_grant asker) → asker < instances
+    → IsShown links h block_no entry block → Comes me from links scn (messages.ShipTo block_no grant new_grant asker)
     → (h.places me).current ≡ Some now → IsForced block me → IsOfImage shipment block_no new_grant now → shipment.shared ≡ false
     → GoesOn me scn links (answered me from asker (clock_then me scn h) (messages.Shipped shipment) links) (with_place me (given_up (h.places me)) (risen me scn h)) block_no entry block
 
 -- An equal of a shared image goes to its asker.
 abbrev pub ImageIsShared : Type 0
 ImageIsShared = (me from : Inst) (scn : Scn) (grant new_grant : GrantNo) (asker : Inst) (now : Current) (shipment : Shipment) (links : List (List Packet)) (h : Holdings) (block_no : BlockNo) (entry : Entry) (block : Block)
-    → IsShown links h block_no entry block → Comes me from links scn (messages.ShareTo block_no grant new_grant asker) → asker < instances
+    → IsShown links h block_no entry block → Comes me from links scn (messages.ShareTo block_no grant new_grant asker)
     → (h.places me).current ≡ Some now → IsForced block me → IsOfImage shipment block_no new_grant now → shipment.shared ≡ true
     → GoesOn me scn links (answered me from asker (clock_then me scn h) (messages.Shipped shipment) links) (risen me scn h) block_no entry block
 
@@ -68,7 +68,7 @@ CopyComesBack = (me from to : Inst) (scn : Scn) (grant : GrantNo) (reader : Inst
 -- A copy of the current image goes to its reader, once the redo on it is on the disk: it shows all up to the clock.
 abbrev pub CopyIsServed : Type 0
 CopyIsServed = (me from : Inst) (scn : Scn) (grant : GrantNo) (reader : Inst) (now : Current) (links : List (List Packet)) (h : Holdings) (block_no : BlockNo) (entry : Entry) (block : Block)
-    → IsShown links h block_no entry block → Comes me from links scn (messages.CopyTo block_no grant reader) → reader < instances
+    → IsShown links h block_no entry block → Comes me from links scn (messages.CopyTo block_no grant reader)
     → (h.places me).current ≡ Some now → now.image.front.number ≡ block_no → IsForced block me
     → GoesOn me scn links (answered me from reader (clock_then me scn h) (messages.Copy now.image (clock_then me scn h)) links) (risen me scn h) block_no entry block
 

@@ -3,3 +3,4 @@ pub mod Shown
 pub mod Holders
 pub mod Own
 pub mod HolderTurns
+pub mod Beside

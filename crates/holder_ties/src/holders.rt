@@ -1,3 +1,4 @@
+ghost use Rattle.holder_ties.specs.Beside.{ClocksMayRise, ImageIsChanged, LinksMayDiffer, MasterTakes, RedoMayBeForced};
 ghost use Rattle.holder_ties.specs.HolderTurns.{HolderRunsAreTurnsOfAll};
 ghost use Rattle.holder_ties.specs.Own.{AskGoesOut, ImageIsEvicted, ImageIsWritten, WriteIsPleaded, WriteIsTold};
 ghost use Rattle.holder_ties.specs.Holders.{CopyComesBack, CopyIsServed, CopyIsTaken, DiskImageIsInstalled, ImageIsUpgraded, PastIsDropped, PleaComesBack, PleaIsMet, PleaIsNoted, ShipmentIsInstalled, ImageIsShared, ImageIsShipped, InvalidateIsObeyed, ShareComesBack, ShipComesBack};
@@ -55,4 +56,14 @@ pub fn an_instance_acts_on_its_image()
 /// keeps the invariant of each.
 pub fn a_run_of_a_holder_is_one_of_turns()
     ensures { HolderRunsAreTurnsOfAll }
+{}
+
+/// What else happens leaves a block shown: messages of other blocks, a clock that rises, redo that is forced. A change of the
+/// image and what a master does with a message are steps of the protocol.
+pub fn a_block_stays_shown()
+    ensures links { LinksMayDiffer }
+    ensures clocks { ClocksMayRise }
+    ensures forces { RedoMayBeForced }
+    ensures changes { ImageIsChanged }
+    ensures masters { MasterTakes }
 {}

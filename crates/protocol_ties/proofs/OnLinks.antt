@@ -33,7 +33,7 @@ same-sym xs ys none = none
 same-sym xs ys (more x us vs ws t s) = put-both x ys ws (x ∷ us) us t (here us) (same-sym us ws s)
 
 -- what is sent comes into the bag, and there are as many links as before
-sends-in : (b me scn : ℕ) (sends : List (ℕ × Message)) (links : List (List Packet)) → length links ≡ 128 → me < 8 → AreReached sends
+pub sends-in : (b me scn : ℕ) (sends : List (ℕ × Message)) (links : List (List Packet)) → length links ≡ 128 → me < 8 → AreReached sends
     → Same (wires_about b scn sends ++ bag_of b links) (bag_of b (all_sent me scn sends links)) × (length (all_sent me scn sends links) ≡ 128)
 sends-in b me scn [] links all low reached = (same-refl (bag_of b links), all)
 sends-in b me scn (told ∷ sends) links all low reached =
@@ -50,7 +50,7 @@ sends-in b me scn (told ∷ sends) links all low reached =
     )
 
 -- a bag in another order is shown too
-shows-same : {wires under : List Wire} {entry : Entry} {block : Block} → Same under wires → Shows wires entry block → Shows under entry block
+pub shows-same : {wires under : List Wire} {entry : Entry} {block : Block} → Same under wires → Shows wires entry block → Shows under entry block
 shows-same {wires = wires} {under = under} {entry = entry} {block = block} same shows = record {
   tied = shows.tied;
   messages = same-trans (under ++ pleas_of entry.queue) (wires ++ pleas_of entry.queue) (flights instances block) (same-over under wires (pleas_of entry.queue) same) shows.messages;
