@@ -143,7 +143,7 @@ came-all whole inst scn b era = record {
   others = λ c ne. ap {A = Cluster} {B = Cluster} (λ z. seen (all_raised inst scn whole).members (all_raised inst scn whole).clock z) (put-other whole.blocks b (record (view whole b) { block = raised inst scn (view whole b).block }) c (λ e. ne (sym e)));
 }
 
-all-after : {one two three : AllBlocks} → RunOfAll one two → RunOfAll two three → RunOfAll one three
+pub all-after : {one two three : AllBlocks} → RunOfAll one two → RunOfAll two three → RunOfAll one three
 all-after (all_end whole) k = k
 all-after (all_go turn rest) k = all_go turn (all-after rest k)
 
