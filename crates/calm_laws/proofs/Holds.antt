@@ -14,6 +14,7 @@ use Rattle.inst_state.specs.declared.inst.Leading.{Leading}
 use Rattle.inst_state.specs.declared.inst.Mastering.{Mastering}
 use Rattle.inst_state.specs.declared.plan.Plan.{Plan}
 use Rattle.inst_state.specs.State.{newest_at}
+use Rattle.redo_thread.specs.Thread.{ThreadState, end_of}
 use Rattle.image_steps.specs.MasterTake.{is_master}
 use Rattle.block_protocol.specs.AllBlocks.{AllBlocks, view}
 use Rattle.block_protocol.specs.Block.{At, Block, Record, Scn, put}
@@ -30,7 +31,7 @@ use Rattle.holder_ties.specs.Shown.{Does, GoesOn, Holdings, IsShown}
 use Rattle.calm_laws.specs.Coherent.{place_in, place_of}
 use Rattle.calm_laws.proofs.Led.{Led, led-does, led-goes, risen_clock}
 use Rattle.calm_laws.proofs.Links.{AreSaneLinks, links-later, queue-later}
-use Rattle.calm_laws.proofs.Plays.{Follows, IsDurableIn, IsFine, Plays, Serves, clock_in, clock_of, durable-before, each-after, newest, other-clocks, other-links, read-after, same-or-not, set-here, set-there}
+use Rattle.calm_laws.proofs.Plays.{AreOfBlocks, Follows, IsDurableIn, IsFine, Plays, Serves, clock_in, clock_of, durable-before, each-after, newest, other-clocks, other-links, read-after, same-or-not, set-here, set-there}
 
 -- What a step with an image leaves of an instance: all but its clock, its cache, its sessions and its wave.
 pub record Alike (n m : Inst) : Type 0 where
@@ -40,10 +41,15 @@ pub record Alike (n m : Inst) : Type 0 where
   pub leading : m.leading ≡ n.leading
   pub mastering : m.mastering ≡ n.mastering
   pub newest : m.newest ≡ n.newest
-  pub durable : m.thread.durable ≡ n.thread.durable
+  pub thread : m.thread ≡ n.thread
+  pub cached : length m.cache.places ≡ length n.cache.places
+  pub numbers : AreOfBlocks n.cache → AreOfBlocks m.cache
 
-pub serves-still : (count i : ℕ) (n m : Inst) → Alike n m → Serves count i n → Serves count i m
-serves-still count i n m a s = record {
+pub serves-still : (count blocks i : ℕ) (n m : Inst) → Alike n m → Serves count blocks i n → Serves count blocks i m
+serves-still count blocks i n m a s = record {
+  cached = a.cached ∙ s.cached;
+  numbers = a.numbers s.numbers;
+  reached = λ b. subst (λ (t : ThreadState). newest_at m b ≤ end_of t) (sym a.thread) (subst (λ (x : ℕ). x ≤ end_of n.thread) (sym (ap (λ (places : List ℕ). slice_index_or places b 0) a.newest)) (s.reached b));
   low = s.low;
   me = ap (λ (p : Plan). p.me) a.plan ∙ s.me;
   up = a.life ∙ s.up;
@@ -134,9 +140,9 @@ module _ (count steps blocks : ℕ) (links : List (List Packet)) (masters : Mast
   newest-same b = ap (λ (places : List ℕ). slice_index_or places b 0) alike.newest
 
   -- another block follows on, whose clocks and links are others
-  other-follows : (b c : BlockNo) (after : Block) (clock : ℕ → Scn) (links_now : List (List Packet)) → (led : Led p.whole clock b after) → AreLinks links_now → ((d : BlockNo) → d ≢ b → Same (bag_of d links) (bag_of d links_now))
+  pub other-follows : (b c : BlockNo) (after : Block) (clock : ℕ → Scn) (links_now : List (List Packet)) → (led : Led p.whole clock b after) → AreLinks links_now → Same (bag_of c links) (bag_of c links_now)
       → (place_at m.cache c ≡ place_at n.cache c) → c ≢ b → Follows links insts p.whole c → Follows links_now later led.last c
-  other-follows b c after clock links_now led sized bags same ne f =
+  other-follows b c after clock links_now led sized bag same ne f =
       let seat = seat-after f.master f.seat f.there in
       let here : (view led.last c).block ≡ record (view p.whole c).block { clock = clock } = led.others c ne in
       record {
@@ -144,7 +150,7 @@ module _ (count steps blocks : ℕ) (links : List (List Packet)) (masters : Mast
         h = record f.h { clock = clock };
         shown = subst (λ (s : Block). IsShown links_now (record f.h { clock = clock }) c f.entry s) (sym here)
             (other-links links links_now (record f.h { clock = clock }) c f.entry (record (view p.whole c).block { clock = clock })
-            (other-clocks links f.h c f.entry (view p.whole c).block clock f.shown) sized (bags c ne));
+            (other-clocks links f.h c f.entry (view p.whole c).block clock f.shown) sized bag);
         places = read-after insts me n m at (λ (o : Option Inst). place_of o c) f.h.places (λ i apart. f.places i) (f.places me ∙ ap (λ (o : Option Inst). place_of o c) at ∙ sym same);
         master = f.master;
         seat = seat.0;
@@ -152,7 +158,7 @@ module _ (count steps blocks : ℕ) (links : List (List Packet)) (masters : Mast
         is_entry = ap (λ (g : Mastering). entry_of g.directory c) seat.2 ∙ f.is_entry;
         at_master = ap (λ (s : Block). s.place) here ∙ f.at_master;
         only = only-after c f.master f.only;
-        durable = λ i d. subst (λ (s : Block). IsForced s i) (sym here) (f.durable i (durable-before insts me n m at c i (newest-same c) alike.durable d));
+        durable = λ i d. subst (λ (s : Block). IsForced s i) (sym here) (f.durable i (durable-before insts me n m at c i (newest-same c) (ap (λ (t : ThreadState). t.durable) alike.thread) d));
       }
 
   -- What an instance did with its image of a block, as the protocol has it.
@@ -180,7 +186,7 @@ module _ (count steps blocks : ℕ) (links : List (List Packet)) (masters : Mast
         at_master = ap (λ (s : Block). s.place) it.led.here ∙ it.place ∙ f.at_master;
         only = only-after b f.master f.only;
         durable = λ i d. subst (λ (rs : List Record). AllByRecursion (λ redo. redo.maker ≡ i → redo.durable ≡ true) rs) (sym (ap (λ (s : Block). s.records) it.led.here ∙ it.records))
-            (f.durable i (durable-before insts me n m at b i (newest-same b) alike.durable d));
+            (f.durable i (durable-before insts me n m at b i (newest-same b) (ap (λ (t : ThreadState). t.durable) alike.thread) d));
       }
 
   -- all blocks play on
@@ -199,7 +205,7 @@ module _ (count steps blocks : ℕ) (links : List (List Packet)) (masters : Mast
         awake = led.awake;
         few = p.few;
         sized = it.shown.sized;
-        each = each-after insts me n m at (Serves count) p.each (serves-still count me n m alike (p.each me n at));
+        each = each-after insts me n m at (Serves count blocks) p.each (serves-still count blocks me n m alike (p.each me n at));
         named = p.named;
         clocks = read-after insts me n m at clock_of led.last.clock (λ i apart. ap (λ (c : ℕ → Scn). c i) led.clocks ∙ others i apart ∙ p.clocks i) (ap (λ (c : ℕ → Scn). c me) led.clocks ∙ own);
         sane = links-later (newest p.whole) (newest led.last) (λ c. let same = made c in omega (arith, same)) links_now sane;
@@ -222,4 +228,4 @@ module _ (count steps blocks : ℕ) (links : List (List Packet)) (masters : Mast
 
       follows-at : (c : BlockNo) → c < blocks → (c ≡ b) ⊎ (c ≢ b) → Follows links_now later it.led.last c
       follows-at c low (inl e) = subst (λ (d : ℕ). Follows links_now later it.led.last d) (sym e) (this-follows b f clock links_now after h it)
-      follows-at c low (inr ne) = other-follows b c after clock links_now it.led it.shown.sized it.bags (places c ne) ne (p.follows c low)
+      follows-at c low (inr ne) = other-follows b c after clock links_now it.led it.shown.sized (it.bags c ne) (places c ne) ne (p.follows c low)

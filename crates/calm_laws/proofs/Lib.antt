@@ -4,3 +4,6 @@ pub mod Rooms
 pub mod Led
 pub mod Plays
 pub mod Holds
+pub mod Moves
+pub mod Heard
+pub mod Images

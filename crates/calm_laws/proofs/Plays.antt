@@ -10,10 +10,12 @@ use Rattle.wire_net.specs.declared.message.Packet.{Packet}
 use Rattle.wire_net.specs.Masters.{master_of}
 use Rattle.resource_dir.specs.Directory.{entry_of}
 use Rattle.buffer_cache.specs.declared.place.Place.{Place}
-use Rattle.buffer_cache.specs.Cache.{place_at}
+use Rattle.buffer_cache.specs.declared.place.Current.{Current}
+use Rattle.buffer_cache.specs.Cache.{CacheState, place_at}
 use Rattle.inst_state.specs.declared.inst.Inst.{Inst}
 use Rattle.inst_state.specs.declared.inst.Life.TheVariants.{Up}
 use Rattle.inst_state.specs.State.{newest_at}
+use Rattle.redo_thread.specs.Thread.{end_of}
 use Rattle.image_steps.specs.MasterTake.{is_master}
 use Rattle.block_protocol.specs.AllBlocks.{AllBlocks, RunOfAll, first_of_all, view}
 use Rattle.block_protocol.specs.Block.{At, Block, Scn}
@@ -48,8 +50,12 @@ IsDurableOf (Some n) block = newest_at n block ≤ n.thread.durable
 abbrev pub IsDurableIn : List Inst → ℕ → ℕ → Type 0
 IsDurableIn insts block i = IsDurableOf (slice_get insts i) block
 
+-- Each current image in a cache is of the block at whose place it stands.
+abbrev pub AreOfBlocks : CacheState → Type 0
+AreOfBlocks cache = (c : ℕ) (now : Current) → (place_at cache c).current ≡ Some now → now.image.front.number ≡ c
+
 -- An instance serves: it is up, isn't paused, and leads no recovery.
-pub record Serves (count i : ℕ) (n : Inst) : Type 0 where
+pub record Serves (count blocks i : ℕ) (n : Inst) : Type 0 where
   pub low : i < count
   pub me : n.plan.me ≡ i
   pub up : n.life ≡ Up
@@ -57,6 +63,9 @@ pub record Serves (count i : ℕ) (n : Inst) : Type 0 where
   pub leads : n.leading.leads ≡ false
   pub adopted : n.leading.adopted ≡ []
   pub sized : IsSized n.mastering.directory
+  pub cached : length n.cache.places ≡ blocks
+  pub numbers : AreOfBlocks n.cache
+  pub reached : (b : ℕ) → newest_at n b ≤ end_of n.thread
 
 -- how many versions of each block were made
 abbrev pub newest : AllBlocks → ℕ → ℕ
@@ -92,7 +101,7 @@ pub record Plays (count steps blocks : ℕ) (links : List (List Packet)) (master
   pub awake : whole.members.actual ≡ whole.clock
   pub few : count ≤ 8
   pub sized : AreLinks links
-  pub each : (i : ℕ) (n : Inst) → slice_get insts i ≡ Some n → Serves count i n
+  pub each : (i : ℕ) (n : Inst) → slice_get insts i ≡ Some n → Serves count blocks i n
   pub named : (b : ℕ) → master_of masters b < 8
   pub clocks : (i : ℕ) → whole.clock i ≡ clock_in insts i
   pub sane : AreSaneLinks (newest whole) links

@@ -74,7 +74,7 @@ module _ (me from scn : ℕ) (links : List (List Packet)) (h : Holdings) (block_
   abbrev rest : List Wire
   rest = gather of_request instances block.request ++ (map of_note block.notes ++ map of_memo block.memos)
 
-  ordered : (block.op ≡ Grants asker granted (ShipTo me grant)) × Same wires rest
+  pub ordered : (block.op ≡ Grants asker granted (ShipTo me grant)) × Same wires rest
   ordered =
       carrier-taken (ShipToWire me grant asker granted) wires block (Grants asker granted (ShipTo me grant)) refl refl refl refl
       (bag-taken me from scn message links h block_no entry block is comes about (ShipToWire me grant asker granted) order)
