@@ -1,0 +1,9 @@
+pub mod Backs
+pub mod ByKind
+pub mod Did
+pub mod Honest
+pub mod Making
+pub mod Parts
+pub mod SessionSteps
+pub mod Stakes
+pub mod Worlds
