@@ -113,6 +113,10 @@ all_apart stakes z s [] free tied = tt
 all_apart stakes z s (end ∷ ends) free tied =
     (tied_apart stakes z s end end.session free tied.0, all_apart stakes z s ends free tied.1)
 
+pub all_append : {A : Type 0} (P : A → Type 0) (xs ys : List A) → AllByRecursion P xs → AllByRecursion P ys → AllByRecursion P (xs ++ ys)
+all_append {A = A} P [] ys a b = b
+all_append {A = A} P (x ∷ xs) ys a b = (a.0, all_append P xs ys a.1 b)
+
 -- a session comes to wait for nothing
 pub honest_freed : (plan : Plan) (ends : List WaitingEnd) (stakes : List Stake) (past : Past) (z : ℕ) (s : Stake) → IsFree (stake_in stakes z).awaits
     → s.awaits ≡ None → Honest plan ends stakes past → Honest plan ends (slice_set stakes z s) past

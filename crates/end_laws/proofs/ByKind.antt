@@ -110,6 +110,7 @@ use Rattle.stmt_steps.specs.Back.{dead_back_on, dead_stepped_by, needed_image}
 use Rattle.stmt_steps.specs.Mark.{dead_end_of, dead_marked_by, waiting_end}
 use Rattle.wave_steps.specs.Enter.{told_if}
 use Rattle.report_steps.specs.Reopen.{risen}
+use Rattle.end_laws.specs.Marked.{is_log_read}
 use Rattle.end_laws.proofs.Did.{Did, IsUnrest, Keeps, Restores, Stills, forces, keeps, keeps_then, leads, loses, reads, restored, restores, rests}
 use Rattle.end_laws.proofs.Parts.{asked_keeps, copy_keeps, entered_keeps, handed_keeps, heard_keeps, hears_keeps, image_keeps, opened_restores, own_seg, report_restores, segment_restores, taken_keeps, thaw_restores, with_keeps, written_keeps}
 use Rattle.end_laws.proofs.SessionSteps.{did_ack, did_broadcast, did_change, did_end, did_mark, did_start, did_step_back, did_visit}
@@ -152,31 +153,31 @@ still_packet core me (Some packet) = by packet.message
 -- how an instance ends
 
 -- an instance as it ends has the ends and the segment of before, or a segment that was read as its own
-losing : (n k : Inst) (core : Core) → Restores n k → (it : Loss) (kept : Option ℕ) → Did n core (lost k) (lost_tells k it kept)
-losing n k core same it kept =
+losing : (n k : Inst) (core : Core) (reading : Bool) → Restores n k → (it : Loss) (kept : Option ℕ) → Did n core reading (lost k) (lost_tells k it kept)
+losing n k core reading same it kept =
     loses k it kept [] refl same.plan same.ends same.seg (inl refl) (sym (append-nil (lost_tells k it kept)))
 
-stop : (n k : Inst) (core : Core) → Restores n k → (bad : Bool) → Did n core (lost k) (stop_tells k bad)
-stop n k core same bad = losing n k core same (loss.Ended bad) (Some 0)
+stop : (n k : Inst) (core : Core) → Restores n k → (bad : Bool) → Did n core false (lost k) (stop_tells k bad)
+stop n k core same bad = losing n k core false same (loss.Ended bad) (Some 0)
 
 -- AskUndo
 
-ask_read : (n : Inst) (core : Core) (z : ℕ) (it : AskedUndo) → Did n core (read_undo n z it) (undo_read_tells n it)
+ask_read : (n : Inst) (core : Core) (z : ℕ) (it : AskedUndo) → Did n core false (read_undo n z it) (undo_read_tells n it)
 ask_read n core z (asked_for.Read (undo_read.Head head)) = rests (handed_keeps n z (undo_image.Head head.value)) tt
 ask_read n core z (asked_for.Read (undo_read.Block block)) = rests (handed_keeps n z (undo_image.Block block.value)) tt
 ask_read n core z (asked_for.Read undo_read.Failed) = stop n n core (restored n) false
 ask_read n core z _ = stop n n core (restored n) true
 
 ask_where : (n : Inst) (core : Core) (z : ℕ) (live : Bool) (it : AskedUndo)
-    → Did n core (if live then undo_asked n z else read_undo n z it) (if live then [] else undo_read_tells n it)
+    → Did n core false (if live then undo_asked n z else read_undo n z it) (if live then [] else undo_read_tells n it)
 ask_where n core z true it = rests (with_keeps n z (asked_session (name_in_hand n z) (session_at n z)) refl) tt
 ask_where n core z false it = ask_read n core z it
 
-ask_at : (n : Inst) (core : Core) (z : ℕ) (o : Option Place) (it : AskedUndo) → Did n core (asked_at n core z o it) (ask_at_tells n core o it)
+ask_at : (n : Inst) (core : Core) (z : ℕ) (o : Option Place) (it : AskedUndo) → Did n core false (asked_at n core z o it) (ask_at_tells n core o it)
 ask_at n core z None it = stop n n core (restored n) true
 ask_at n core z (Some place) it = ask_where n core z (is_live core place.seg) it
 
-ask_by : (n : Inst) (core : Core) (z : ℕ) (o : Option Lacking) (it : AskedUndo) → Did n core (asked_by n core z o it) (ask_tells_by n core o it)
+ask_by : (n : Inst) (core : Core) (z : ℕ) (o : Option Lacking) (it : AskedUndo) → Did n core false (asked_by n core z o it) (ask_tells_by n core o it)
 ask_by n core z None it = rests (keeps n) tt
 ask_by n core z (Some (Undo what)) it = ask_at n core z (place_of n.plan.layout what) it
 ask_by n core z (Some Sense) it = stop n n core (restored n) true
@@ -193,13 +194,13 @@ kept_restores n m same = record {
 }
 
 read_image : (n k : Inst) (core : Core) → Keeps n k → (block grant : ℕ) (mode : Mode) (it : Installed)
-    → Did n core (granted k block grant mode true it) (image_read_tells k it)
+    → Did n core false (granted k block grant mode true it) (image_read_tells k it)
 read_image n k core same block grant mode (installed.Read (data_read.Image image)) =
     let c = Some (read_from_disk grant mode image.value) in rests (keeps_then n k (with_image k block c) same (image_keeps k block c)) tt
 read_image n k core same block grant mode (installed.Read data_read.Failed) = stop n k core (kept_restores n k same) false
 read_image n k core same block grant mode _ = stop n k core (kept_restores n k same) true
 
-bring : (n k : Inst) (core : Core) → Keeps n k → (o : Option Message) (it : Installed) → Did n core (brought k o it) (install_tells_by k o it)
+bring : (n k : Inst) (core : Core) → Keeps n k → (o : Option Message) (it : Installed) → Did n core false (brought k o it) (install_tells_by k o it)
 bring n k core same (Some (Grant block grant mode true)) it = read_image n k core same block grant mode it
 bring n k core same (Some (Grant block grant mode false)) it =
     let c = option_map (upgraded grant) (place_at k.cache block).current in rests (keeps_then n k (with_image k block c) same (image_keeps k block c)) tt
@@ -209,46 +210,46 @@ bring n k core same _ it = rests same tt
 
 -- threads
 
-read_did : (n : Inst) (core : Core) (thread : ℕ) (it : Found) → IsUnrest core n.plan.me → Did n core (thread_read n core it) (read_tells n core thread it)
+read_did : (n : Inst) (core : Core) (thread : ℕ) (it : Found) → IsUnrest core n.plan.me → Did n core true (thread_read n core it) (read_tells n core thread it)
 read_did n core thread (found.Closed scns) unrest = rests (record { same = refl; clock = le_refl n.clock.scn }) tt
-read_did n core thread (found.Unread bad) unrest = stop n n core (restored n) bad
+read_did n core thread (found.Unread bad) unrest = losing n n core true (restored n) (loss.Ended bad) (Some 0)
 read_did n core thread (found.Stopped log bad) unrest =
-    loses n (loss.Ended bad) (Some 0) (log_tells core thread log) refl refl refl (λ is. is) (inr (thread, log, refl)) refl
-read_did n core thread (found.Whole log versions) unrest = reads thread log unrest (record { same = refl; clock = le_refl n.clock.scn }) refl
+    loses n (loss.Ended bad) (Some 0) (log_tells core thread log) refl refl refl (λ is. is) (inr (refl, thread, log, refl)) refl
+read_did n core thread (found.Whole log versions) unrest = reads thread log refl unrest (record { same = refl; clock = le_refl n.clock.scn }) refl
 
-close_did : (n : Inst) (core : Core) (it : Closing) → Did n core (thread_closed n it) (close_tells n it)
+close_did : (n : Inst) (core : Core) (it : Closing) → Did n core false (thread_closed n it) (close_tells n it)
 close_did n core closing.Done = rests (keeps n) tt
 close_did n core _ = stop n n core (restored n) false
 
 -- blocks
 
-write_did : (n : Inst) (core : Core) (block : ℕ) (it : Written) → Did n core (block_written n block it) (write_tells n it)
+write_did : (n : Inst) (core : Core) (block : ℕ) (it : Written) → Did n core false (block_written n block it) (write_tells n it)
 write_did n core block written.Done = rests (written_keeps n block (target n block)) tt
 write_did n core block written.Failed = stop n n core (restored n) false
 
-recover_did : (n : Inst) (core : Core) (block : ℕ) (it : Recovered) → Did n core (recover n core block it) (recover_tells n it)
+recover_did : (n : Inst) (core : Core) (block : ℕ) (it : Recovered) → Did n core false (recover n core block it) (recover_tells n it)
 recover_did n core block (recovered.Done stood version) = rests (record { same = refl; clock = le_refl n.clock.scn }) tt
 recover_did n core block (recovered.Unwritten stood) = stop n n core (restored n) false
 recover_did n core block (recovered.Unrolled stood) = stop n n core (restored n) true
 recover_did n core block recovered.Bad = stop n n core (restored n) true
 recover_did n core block recovered.Unread = stop n n core (restored n) false
 
-recover_by : (n : Inst) (core : Core) (block : ℕ) (it : How) → Did n core (recovered_by n core block it) (recover_tells_by n it)
+recover_by : (n : Inst) (core : Core) (block : ℕ) (it : How) → Did n core false (recovered_by n core block it) (recover_tells_by n it)
 recover_by n core block (how.Recovered it) = recover_did n core block it
 recover_by n core block _ = rests (keeps n) tt
 
 -- control lines
 
-crash_as : (n : Inst) (core : Core) (control : Control) (it : Kept) → Did n core (lost n) (crash_tells_by n control it)
-crash_as n core control Nothing = losing n n core (restored n) (loss.Crashed control.line) (Some n.thread.durable)
-crash_as n core control (Bytes Whole) = losing n n core (restored n) (loss.Crashed control.line) (Some (kept_to n control))
-crash_as n core control (Bytes (Cut kept)) = losing n n core (restored n) (loss.Ended false) kept
+crash_as : (n : Inst) (core : Core) (control : Control) (it : Kept) → Did n core false (lost n) (crash_tells_by n control it)
+crash_as n core control Nothing = losing n n core false (restored n) (loss.Crashed control.line) (Some n.thread.durable)
+crash_as n core control (Bytes Whole) = losing n n core false (restored n) (loss.Crashed control.line) (Some (kept_to n control))
+crash_as n core control (Bytes (Cut kept)) = losing n n core false (restored n) (loss.Ended false) kept
 
-crash_by : (n : Inst) (core : Core) (o : Option Control) (it : Kept) → Did n core (crashed_by n o) (crash_tells n o it)
+crash_by : (n : Inst) (core : Core) (o : Option Control) (it : Kept) → Did n core false (crashed_by n o) (crash_tells n o it)
 crash_by n core None it = rests (keeps n) tt
 crash_by n core (Some control) it = crash_as n core control it
 
-check_did : (n : Inst) (core : Core) (number : ℕ) (it : Written) → Did n core (checkpointed n number it) (checkpoint_tells n number it)
+check_did : (n : Inst) (core : Core) (number : ℕ) (it : Written) → Did n core false (checkpointed n number it) (checkpoint_tells n number it)
 check_did n core number written.Done = rests (record { same = refl; clock = le_refl n.clock.scn }) (refl, tt)
 check_did n core number written.Failed = stop n n core (restored n) false
 
@@ -262,12 +263,12 @@ JoinsFit n (how.Joined it) = JoinFits n it
 JoinsFit n _ = Unit {0}
 
 join_read : (n k : Inst) (core : Core) → Restores n k → IsUnrest core n.plan.me → (runs : Bool)
-    → Did n core (if runs then k else lost k) (if runs then [] else stop_tells k false)
+    → Did n core false (if runs then k else lost k) (if runs then [] else stop_tells k false)
 join_read n k core same unrest true = restores unrest same tt
 join_read n k core same unrest false = stop n k core same false
 
 join_did : (n : Inst) (core : Core) (number : ℕ) (it : Joined) → IsUnrest core n.plan.me → JoinFits n it
-    → Did n core (came_in (begun n core number) core it) (join_tells (begun n core number) core it)
+    → Did n core false (came_in (begun n core number) core it) (join_tells (begun n core number) core it)
 join_did n core number joined.Dark unrest fits = restores unrest (record { plan = refl; ends = refl; stakes = refl; seg = λ is. is }) tt
 join_did n core number (joined.Read own it) unrest fits =
     let k = begun n core number in
@@ -278,15 +279,15 @@ join_did n core number joined.Bad unrest fits = stop n (begun n core number) cor
 join_did n core number joined.Unread unrest fits = stop n (begun n core number) core (record { plan = refl; ends = refl; stakes = refl; seg = λ is. is }) false
 
 join_by : (n : Inst) (core : Core) (number : ℕ) (it : How) → IsUnrest core n.plan.me → JoinsFit n it
-    → Did n core (joined_by n core number it) (join_tells_by n core number it)
+    → Did n core false (joined_by n core number it) (join_tells_by n core number it)
 join_by n core number (how.Joined it) unrest fits = join_did n core number it unrest fits
 join_by n core number _ unrest fits = rests (keeps n) tt
 
 -- an instance alone
 
-force_did : (n : Inst) (core : Core) (it : Appended) → Did n core (forced_as n it) (force_tells n it)
+force_did : (n : Inst) (core : Core) (it : Appended) → Did n core false (forced_as n it) (force_tells n it)
 force_did n core Whole = forces refl refl
-force_did n core (Cut kept) = losing n n core (restored n) (loss.Ended false) kept
+force_did n core (Cut kept) = losing n n core false (restored n) (loss.Ended false) kept
 
 restores_then : (a b c : Inst) → Restores a b → Restores b c → Restores a c
 restores_then a b c first later = record {
@@ -298,7 +299,7 @@ restores_then a b c first later = record {
       later.seg mine ∙ ap (λ (p : Plan). p.me) first.plan);
 }
 
-thaw_did : (n : Inst) (core : Core) (it : Thawed) → IsUnrest core n.plan.me → Did n core (thaw n core it) (thaw_tells n core it)
+thaw_did : (n : Inst) (core : Core) (it : Thawed) → IsUnrest core n.plan.me → Did n core false (thaw n core it) (thaw_tells n core it)
 thaw_did n core (thawed.Done opening owns) unrest =
     let k = opened_part n core opening in
     restores unrest (restores_then n k (thaw_part k (opened_shared n core opening) owns.value.items) (opened_restores n core opening)
@@ -307,7 +308,7 @@ thaw_did n core (thawed.Unopened opening) unrest = stop n (opened_part n core op
 thaw_did n core (thawed.Bad opening) unrest = stop n (opened_part n core opening) core (opened_restores n core opening) true
 thaw_did n core (thawed.Unread opening) unrest = stop n (opened_part n core opening) core (opened_restores n core opening) false
 
-thaw_by : (n : Inst) (core : Core) (it : How) → IsUnrest core n.plan.me → Did n core (thawed_by n core it) (thaw_tells_by n core it)
+thaw_by : (n : Inst) (core : Core) (it : How) → IsUnrest core n.plan.me → Did n core false (thawed_by n core it) (thaw_tells_by n core it)
 thaw_by n core (how.Thawed it) unrest = thaw_did n core it unrest
 thaw_by n core _ unrest = rests (keeps n) tt
 
@@ -325,7 +326,7 @@ steps_dead : (n : Inst) (o : Option Xid) (redo : Redo) → dead_txn n ≡ o
 steps_dead n None redo is e = absurd (none-some redo e)
 steps_dead n (Some x) redo is e = dead_leads n n.leading.leads x is
 
-dead_mark_did : (n : Inst) (core : Core) (o : Option Redo) → dead_end_decided n ≡ o → Did n core (dead_marked_by n o) (dead_tells_by o)
+dead_mark_did : (n : Inst) (core : Core) (o : Option Redo) → dead_end_decided n ≡ o → Did n core false (dead_marked_by n o) (dead_tells_by o)
 dead_mark_did n core None is = rests (keeps n) tt
 dead_mark_did n core (Some redo) is = leads (entry.Rolled redo.xid) (record {
   leads = marks_dead n (dead_txn n) redo refl is;
@@ -335,7 +336,7 @@ dead_mark_did n core (Some redo) is = leads (entry.Rolled redo.xid) (record {
   head = refl;
 }) refl refl
 
-dead_step_did : (n : Inst) (core : Core) (o : Option Redo) → record_of (dead_back_decided n) ≡ o → Did n core (dead_stepped_by n o) (undone o 0)
+dead_step_did : (n : Inst) (core : Core) (o : Option Redo) → record_of (dead_back_decided n) ≡ o → Did n core false (dead_stepped_by n o) (undone o 0)
 dead_step_did n core None is = rests (keeps n) tt
 dead_step_did n core (Some redo) is = leads (entry.Undone redo.xid 0) (record {
   leads = steps_dead n (dead_txn n) redo refl is;
@@ -359,7 +360,7 @@ IfMade _ it n core = Unit {0}
 -- each family of kinds
 
 session_did : (n : Inst) (core : Core) (kind : SessionStep) (z : ℕ) (it : How) → IfMade (Session kind z) it n core
-    → Did n core (session_part n core kind z it) (session_tells n core kind z it)
+    → Did n core false (session_part n core kind z it) (session_tells n core kind z it)
 unfolding session_part session_tells
 session_did n core session.StartStmt z it made = did_start n core z made
 session_did n core session.Visit z it made = did_visit n core z
@@ -371,13 +372,13 @@ session_did n core session.AskUndo z it made = ask_by n core z (lacking n z) (as
 session_did n core session.Broadcast z it made = did_broadcast n core z
 session_did n core session.Ack z it made = did_ack n core z
 
-dead_did : (n : Inst) (core : Core) (kind : DeadStep) → Did n core (dead_part n kind) (dead_tells n kind)
+dead_did : (n : Inst) (core : Core) (kind : DeadStep) → Did n core false (dead_part n kind) (dead_tells n kind)
 unfolding dead_part dead_tells
 dead_did n core dead.Mark = dead_mark_did n core (dead_end_decided n) refl
 dead_did n core dead.StepBack = dead_step_did n core (record_of (dead_back_decided n)) refl
 dead_did n core dead.AskUndo = stop n n core (restored n) true
 
-block_did : (n : Inst) (core : Core) (kind : BlockStep) (number : ℕ) (it : How) → Did n core (block_part n core kind number it) (block_tells n kind it)
+block_did : (n : Inst) (core : Core) (kind : BlockStep) (number : ℕ) (it : How) → Did n core false (block_part n core kind number it) (block_tells n kind it)
 unfolding block_part block_tells
 block_did n core block.Ask number it = rests (asked_keeps n number (lacked n number)) tt
 block_did n core block.Evict number it = rests (record { same = refl; clock = le_refl n.clock.scn }) tt
@@ -409,7 +410,7 @@ heard_then n core from lane m same clock =
     record { same = same; clock = subst (λ (c : Clock). n.clock.scn ≤ c.scn) (sym clock) (hears_keeps n core from lane).clock }
 
 inst_did : (n : Inst) (core : Core) (kind : InstStep) (from : ℕ) (it : How) → IfMade (OfInst kind from) it n core
-    → Did n core (inst_part n core kind from it) (inst_tells n core kind from it)
+    → Did n core (is_log_read (OfInst kind from)) (inst_part n core kind from it) (inst_tells n core kind from it)
 unfolding inst_part inst_tells
 inst_did n core inst.MasterTake from it made = rests (heard_then n core from Main _ refl refl) tt
 inst_did n core inst.Invalidate from it made =
@@ -431,7 +432,7 @@ inst_did n core inst.ReadThread thread it made = read_did n core thread (found_o
 inst_did n core inst.CloseThread thread it made = close_did n core (closing_of it)
 
 line_did : (n : Inst) (core : Core) (kind : LineStep) (number : ℕ) (it : How) → IfMade (Line kind number) it n core
-    → Did n core (line_part n core kind number it) (line_tells n core kind number it)
+    → Did n core false (line_part n core kind number it) (line_tells n core kind number it)
 unfolding line_part line_tells
 line_did n core line.Crash number it made = crash_by n core (open_control core number) (crashed_of it)
 line_did n core line.SendBucket number it made = rests (moved_keeps n (moved_by core number)) tt
@@ -444,7 +445,7 @@ risen_up : (clock bound : Clock) → clock.scn ≤ (risen clock bound).scn
 risen_up clock bound = le_trans (le-max_left clock.scn bound.scn) (le-max_left (max clock.scn bound.scn) bound.known)
 
 plain_did : (n : Inst) (core : Core) (kind : PlainStep) (it : How) → IfMade (Plain kind) it n core
-    → Did n core (plain_part n core kind it) (plain_tells n core kind it)
+    → Did n core false (plain_part n core kind it) (plain_tells n core kind it)
 unfolding plain_part plain_tells
 plain_did n core plain.Enter it made = rests (entered_keeps n core) (still_opens n.plan.me core.waves.wave n.plan.openings [] tt)
 plain_did n core plain.Force it made = force_did n core (forced_of it)
@@ -455,7 +456,7 @@ plain_did n core plain.Resume it made = rests (record { same = refl; clock = ris
 plain_did n core plain.Leave it made = rests (keeps n) tt
 plain_did n core plain.Wave it made = rests (keeps n) tt
 
-pub did_of : (n : Inst) (core : Core) (action : Action) (it : How) → IfMade action it n core → Did n core (part_of n core action it) (tells_of n core action it)
+pub did_of : (n : Inst) (core : Core) (action : Action) (it : How) → IfMade action it n core → Did n core (is_log_read action) (part_of n core action it) (tells_of n core action it)
 did_of n core (Session kind z) it made = session_did n core kind z it made
 did_of n core (Dead kind job) it made = dead_did n core kind
 did_of n core (Block kind number) it made = block_did n core kind number it

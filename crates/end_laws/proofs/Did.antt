@@ -98,23 +98,23 @@ pub record Leads (n m : Inst) : Type 0 where
 -- that waits for no end, or only for one that is on the disk; answers an end; changes a row; takes a change back; makes the
 -- end record of a session's transaction; rolls back a transaction of a down segment; forces its redo; ends; reads a dead
 -- thread; or comes back to its segment.
-pub data Did (n : Inst) (core : Core) (m : Inst) (es : List Entry) : Type 0 where
-  rests : Keeps n m → Stills es → Did n core m es
-  goes : (z next : ℕ) → (stake_at n z).awaits ≡ None → Sets n m z (waits_not next (stake_at n z)) → Stills es → Did n core m es
+pub data Did (n : Inst) (core : Core) (reading : Bool) (m : Inst) (es : List Entry) : Type 0 where
+  rests : Keeps n m → Stills es → Did n core reading m es
+  goes : (z next : ℕ) → (stake_at n z).awaits ≡ None → Sets n m z (waits_not next (stake_at n z)) → Stills es → Did n core reading m es
   acks : (z next : ℕ) (a : Awaited) (e : Entry) → (stake_at n z).awaits ≡ Some a → a.on_disk ≡ true
       → Sets n m z (waits_not next (stake_at n z)) → is_still e ≡ true
-      → es ≡ (if a.commit then Acked (stmt_at n z) a.xid a.scn else e) ∷ [] → Did n core m es
+      → es ≡ (if a.commit then Acked (stmt_at n z) a.xid a.scn else e) ∷ [] → Did n core reading m es
   changes : (z : ℕ) (redo : Redo) → change_decided n z ≡ Some (Do redo) → m ≡ row_changed n z redo
-      → es ≡ record_tells (stmt_at n z) (row_of (asks_at n z)) redo redo.kind ∷ [] → Did n core m es
+      → es ≡ record_tells (stmt_at n z) (row_of (asks_at n z)) redo redo.kind ∷ [] → Did n core reading m es
   steps : (z left : ℕ) (redo : Redo) → record_of (back_decided n z) ≡ Some redo → m ≡ stepped_by n z (Some redo)
-      → es ≡ Undone redo.xid left ∷ [] → Did n core m es
+      → es ≡ Undone redo.xid left ∷ [] → Did n core reading m es
   marks : (z : ℕ) (redo : Redo) → end_decided n z ≡ Some redo → m ≡ end_made n z redo (commits (end_kind n z))
-      → es ≡ mark_entry (stmt_at n z) redo (commits (end_kind n z)) ∷ [] → Did n core m es
-  leads : (e : Entry) → Leads n m → is_rollback e ≡ true → es ≡ e ∷ [] → Did n core m es
-  forces : m ≡ all_forced n → es ≡ fold (commit_told n.plan.me) [] n.ends → Did n core m es
+      → es ≡ mark_entry (stmt_at n z) redo (commits (end_kind n z)) ∷ [] → Did n core reading m es
+  leads : (e : Entry) → Leads n m → is_rollback e ≡ true → es ≡ e ∷ [] → Did n core reading m es
+  forces : m ≡ all_forced n → es ≡ fold (commit_told n.plan.me) [] n.ends → Did n core reading m es
   loses : (k : Inst) (it : Loss) (kept : Option ℕ) (log : List Entry) → m ≡ lost k → k.plan ≡ n.plan → k.ends ≡ n.ends
       → (n.segment.head.front.seg ≡ n.plan.me → k.segment.head.front.seg ≡ n.plan.me)
-      → (log ≡ []) ⊎ ((thread : ℕ) × (found : FoundLog) × (log ≡ log_tells core thread found))
-      → es ≡ lost_tells k it kept ++ log → Did n core m es
-  reads : (thread : ℕ) (log : FoundLog) → IsUnrest core n.plan.me → Keeps n m → es ≡ log_tells core thread log → Did n core m es
-  restores : IsUnrest core n.plan.me → Restores n m → Stills es → Did n core m es
+      → (log ≡ []) ⊎ ((reading ≡ true) × (thread : ℕ) × (found : FoundLog) × (log ≡ log_tells core thread found))
+      → es ≡ lost_tells k it kept ++ log → Did n core reading m es
+  reads : (thread : ℕ) (log : FoundLog) → reading ≡ true → IsUnrest core n.plan.me → Keeps n m → es ≡ log_tells core thread log → Did n core reading m es
+  restores : IsUnrest core n.plan.me → Restores n m → Stills es → Did n core reading m es

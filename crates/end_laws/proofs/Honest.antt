@@ -44,7 +44,7 @@ use Rattle.run_laws.proofs.Folds.{fold_front, told_where}
 use Rattle.run_laws.specs.Tells.{kept_tells, log_tells, loss_entry, lost_tells}
 use Rattle.line_laws.proofs.Courses.{Course, same_course}
 use Rattle.line_laws.proofs.Parts.{forced_stays}
-use Rattle.end_laws.proofs.Backs.{Backs, Honest, IsBacked, IsFree, IsTied, Ties, Waits, all_apart, backs_on, entered_stands, honest_freed, honest_on, marked_stands, set_or, stake_in, stood_on}
+use Rattle.end_laws.proofs.Backs.{all_append, Backs, Honest, IsBacked, IsFree, IsTied, Ties, Waits, all_apart, backs_on, entered_stands, honest_freed, honest_on, marked_stands, set_or, stake_in, stood_on}
 use Rattle.end_laws.proofs.Did.{Did, IsBackground, Keeps, Leads, Sets, Stills, acks, changes, forces, goes, is_rollback, is_still, leads, loses, marks, reads, restores, rests, steps, waits_not}
 use Rattle.end_laws.proofs.SessionSteps.{change_free, runs_waits}
 use Rattle.end_laws.proofs.Stakes.{Awaited, Ledger, Stake, awaited_in, stake_at, stake_is, stake_of, stakes, stmt_in, stmt_is}
@@ -212,10 +212,6 @@ pub runs_within : (sessions : List Session) (z : ℕ) → is_some (snapshot_of (
 runs_within [] z e = absurd (let no : false ≡ true = e in cc)
 runs_within (s ∷ sessions) zero e = omega arith
 runs_within (s ∷ sessions) (suc z) e = let at : z < length sessions = runs_within sessions z e in omega arith
-
-all_append : {A : Type 0} (P : A → Type 0) (xs ys : List A) → AllByRecursion P xs → AllByRecursion P ys → AllByRecursion P (xs ++ ys)
-all_append {A = A} P [] ys a b = b
-all_append {A = A} P (x ∷ xs) ys a b = (a.0, all_append P xs ys a.1 b)
 
 mark_backs : (stmt : ℕ) (redo : Redo) (commit : Bool) (past : Past)
     → Backs (mark_entry stmt redo commit ∷ past) stmt (Some (record { xid = redo.xid; scn = redo.scn; commit = commit; on_disk = false }))
@@ -442,43 +438,43 @@ honest_leads n m past it was = by it.ends
         })))
 
 -- what a step leaves, whatever it did
-pub leave : (n : Inst) (core : Core) (m : Inst) (es : List Entry) (past : Past) → Did n core m es → IsHonest n past → Each AckIsProper past → Leaves m (es ++ past)
-leave n core m es past (rests same still) was proper = leave_quietly m es past (stills_unacked es still) (honest_kept n m past same was) proper
-leave n core m es past (goes z next free set still) was proper =
+pub leave : (n : Inst) (core : Core) (reading : Bool) (m : Inst) (es : List Entry) (past : Past) → Did n core reading m es → IsHonest n past → Each AckIsProper past → Leaves m (es ++ past)
+leave n core reading m es past (rests same still) was proper = leave_quietly m es past (stills_unacked es still) (honest_kept n m past same was) proper
+leave n core reading m es past (goes z next free set still) was proper =
     leave_quietly m es past (stills_unacked es still) (honest_sets n m past z (waits_not next (stake_at n z)) set (free_none (stake_at n z).awaits free) refl was) proper
-leave n core m es past (acks z next a e is durable set still told) was proper =
+leave n core reading m es past (acks z next a e is durable set still told) was proper =
     subst (λ (l : List Entry). Leaves m (l ++ past)) (sym told) (leave_acks n m past z next a e is durable set still was proper)
-leave n core m es past (changes z redo is made told) was proper =
+leave n core reading m es past (changes z redo is made told) was proper =
     subst (λ (l : List Entry). Leaves m (l ++ past)) (sym told)
     (leave_quietly m (record_tells (stmt_at n z) (row_of (asks_at n z)) redo redo.kind ∷ []) past (row_unacked (stmt_at n z) (row_of (asks_at n z)) redo redo.kind, tt)
     (subst (λ (x : Inst). IsHonest x past) (sym made) (honest_changed n past z redo is was)) proper)
-leave n core m es past (steps z left redo is made told) was proper =
+leave n core reading m es past (steps z left redo is made told) was proper =
     subst (λ (l : List Entry). Leaves m (l ++ past)) (sym told)
     (leave_quietly m (entry.Undone redo.xid left ∷ []) past (refl, tt) (subst (λ (x : Inst). IsHonest x past) (sym made) (honest_stepped n past z redo was)) proper)
-leave n core m es past (marks z redo is made told) was proper =
+leave n core reading m es past (marks z redo is made told) was proper =
     let commit = commits (end_kind n z) in
     subst (λ (l : List Entry). Leaves m (l ++ past)) (sym told) (record {
       honest = subst (λ (x : Inst). IsHonest x (mark_entry (stmt_at n z) redo commit ∷ past)) (sym made) (honest_marked n past z redo commit is was);
       proper = (unacked_proper past (mark_entry (stmt_at n z) redo commit) (mark_unacked (stmt_at n z) redo commit), proper);
     })
-leave n core m es past (leads e it back told) was proper =
+leave n core reading m es past (leads e it back told) was proper =
     subst (λ (l : List Entry). Leaves m (l ++ past)) (sym told)
     (leave_quietly m (e ∷ []) past (rollback_unacked e back, tt) (honest_leads n m past it was) proper)
-leave n core m es past (forces made told) was proper =
+leave n core reading m es past (forces made told) was proper =
     subst (λ (l : List Entry). Leaves m (l ++ past)) (sym told) (record {
       honest = subst (λ (x : Inst). IsHonest x (fold (commit_told n.plan.me) [] n.ends ++ past)) (sym made) (honest_forced n past was);
       proper = proper_on (fold (commit_told n.plan.me) [] n.ends) past (unacked_forced n) proper;
     })
-leave n core m es past (loses k it kept log made plan ends seg whence told) was proper = record {
+leave n core reading m es past (loses k it kept log made plan ends seg whence told) was proper = record {
   honest = subst (λ (x : Inst). IsHonest x (es ++ past)) (sym made) (honest_lost k (es ++ past));
   proper = proper_on es past (subst (λ (l : List Entry). Unackeds l) (sym told) (unacked_append (lost_tells k it kept) log (unacked_lost k it kept) (unacked_whence whence))) proper;
 }
   where
-    unacked_whence : (log ≡ []) ⊎ ((thread : ℕ) × (found : FoundLog) × (log ≡ log_tells core thread found)) → Unackeds log
+    unacked_whence : (log ≡ []) ⊎ ((reading ≡ true) × (thread : ℕ) × (found : FoundLog) × (log ≡ log_tells core thread found)) → Unackeds log
     unacked_whence (inl none) = subst (λ (l : List Entry). Unackeds l) (sym none) tt
-    unacked_whence (inr some) = subst (λ (l : List Entry). Unackeds l) (sym some.2) (unacked_log core some.0 some.1)
-leave n core m es past (reads thread log unrest same told) was proper =
+    unacked_whence (inr some) = subst (λ (l : List Entry). Unackeds l) (sym some.3) (unacked_log core some.1 some.2)
+leave n core reading m es past (reads thread log read unrest same told) was proper =
     subst (λ (l : List Entry). Leaves m (l ++ past)) (sym told)
     (leave_quietly m (log_tells core thread log) past (unacked_log core thread log) (honest_kept n m past same was) proper)
-leave n core m es past (restores unrest same still) was proper =
+leave n core reading m es past (restores unrest same still) was proper =
     leave_quietly m es past (stills_unacked es still) (honest_as n m past same.plan same.ends same.stakes was) proper

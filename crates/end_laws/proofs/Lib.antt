@@ -1,8 +1,10 @@
 pub mod Backs
 pub mod ByKind
+pub mod Decisions
 pub mod Did
 pub mod Honest
 pub mod Making
+pub mod Marks
 pub mod Parts
 pub mod SessionSteps
 pub mod Stakes

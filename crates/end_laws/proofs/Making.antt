@@ -34,6 +34,7 @@ use Rattle.inst_node.specs.Allowed.{is_allowed}
 use Rattle.inst_node.specs.Moves.{DiskAfter, JoinedAs, LineDisk, counted, part_after, prepared}
 use Rattle.inst_node.specs.Needs.{inst_needs, line_needs, needs, plain_needs, session_needs}
 use Rattle.run_laws.specs.Tells.{tells}
+use Rattle.end_laws.specs.Marked.{is_log_read}
 use Rattle.end_laws.proofs.ByKind.{IfMade, JoinFits, JoinsFit, did_of}
 use Rattle.end_laws.proofs.Did.{Did}
 
@@ -108,6 +109,6 @@ if_made n core _ it old new may left = tt
 
 -- what a step that was made did
 pub did : (n : Inst) (core : Core) (action : Action) (it : How) (old new : State) → needs n core action ≡ true → DiskAfter n core action it old new
-    → Did (prepared n core action) (counted core n.plan.me action) (part_after n core action it) (tells n core action it)
+    → Did (prepared n core action) (counted core n.plan.me action) (is_log_read action) (part_after n core action it) (tells n core action it)
 did n core action it old new may left =
     did_of (prepared n core action) (counted core n.plan.me action) action it (if_made n core action it old new may left)

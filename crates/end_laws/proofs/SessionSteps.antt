@@ -95,7 +95,7 @@ start_idle n z may =
     let c = and_parts (works n && (session_at n z).connected && is_idle (session_at n z).doing) (may_begin n z) b.0 in
     (and_parts (works n && (session_at n z).connected) (is_idle (session_at n z).doing) c.0).1
 
-pub did_start : (n : Inst) (core : Core) (z : ℕ) → may_start n z ≡ true → Did n core (started n z) (start_tells n z ∷ [])
+pub did_start : (n : Inst) (core : Core) (z : ℕ) → may_start n z ≡ true → Did n core false (started n z) (start_tells n z ∷ [])
 did_start n core z may =
     goes z (session_at n z).next (idle_waits (session_at n z).doing (start_idle n z may))
     (sets n (started n z) z (begun n.clock.known (first_block (asks_at n z)) (session_at n z)) refl refl refl refl refl (le_refl n.clock.scn)) (refl, tt)
@@ -108,7 +108,7 @@ passed n z = (answered (session_at n z)).next
 
 visit_rows : (n : Inst) (core : Core) (z : ℕ) (values : List Value) (last : Bool) → is_last (range_of (asks_at n z)) (session_at n z) ≡ last
     → (stake_at n z).awaits ≡ None → (m : Inst) → Sets n m z (stake_of (read_on (range_of (asks_at n z)) values (session_at n z)))
-    → Did n core m (rows_told (stmt_at n z) (range_of (asks_at n z)) values (session_at n z))
+    → Did n core false m (rows_told (stmt_at n z) (range_of (asks_at n z)) values (session_at n z))
 visit_rows n core z values last is free m set =
     goes z (if is_last (range_of (asks_at n z)) (session_at n z) then passed n z else (session_at n z).next) free
     (subst (λ (s : Stake). Sets n m z s) (λ i. record {
@@ -127,7 +127,7 @@ visit_rows n core z values last is free m set =
 
 visit_made : (n : Inst) (core : Core) (z : ℕ) (o : Option Made) → (is_some o ≡ true → (stake_at n z).awaits ≡ None) → (m : Inst)
     → Sets n m z (stake_of (session_visited (range_of (asks_at n z)) o (session_at n z)))
-    → Did n core m (told_by (stmt_at n z) (range_of (asks_at n z)) o (session_at n z))
+    → Did n core false m (told_by (stmt_at n z) (range_of (asks_at n z)) o (session_at n z))
 visit_made n core z (Some (made.Rows values)) free m set =
     visit_rows n core z values (is_last (range_of (asks_at n z)) (session_at n z)) refl (free refl) m set
 visit_made n core z (Some (made.TooOld cause)) free m set =
@@ -143,7 +143,7 @@ made_waits n z true (Some image) is e = in_hand_waits n z image is
 made_waits n z true None is e = absurd (let no : false ≡ true = e in cc)
 made_waits n z false o is e = absurd (let no : false ≡ true = e in cc)
 
-pub did_visit : (n : Inst) (core : Core) (z : ℕ) → Did n core (visited n z) (visit_tells n z)
+pub did_visit : (n : Inst) (core : Core) (z : ℕ) → Did n core false (visited n z) (visit_tells n z)
 did_visit n core z =
     visit_made n core z (read_made n z) (made_waits n z (reads (asks_at n z)) (image_in_hand n z) refl) (visited n z)
     (sets n (visited n z) z (session_visited (range_of (asks_at n z)) (read_made n z) (session_at n z)) refl refl refl refl refl (le_refl n.clock.scn))
@@ -151,7 +151,7 @@ did_visit n core z =
 -- Change
 
 change_as : (n : Inst) (core : Core) (z : ℕ) (o : Option Decision) → change_decided n z ≡ o → (is_some o ≡ true → (stake_at n z).awaits ≡ None)
-    → Did n core (changed_as n z o) (decision_tells n z o)
+    → Did n core false (changed_as n z o) (decision_tells n z o)
 change_as n core z (Some (decision.Do redo)) is free = changes z redo is refl refl
 change_as n core z (Some (decision.Refuse cause)) is free =
     goes z (passed n z) (free refl) (sets n _ z (refused (session_at n z)) refl refl refl refl refl (le_refl n.clock.scn)) (refl, tt)
@@ -176,26 +176,26 @@ pub change_free : (n : Inst) (z : ℕ) (redo : Redo) → change_decided n z ≡ 
 change_free n z redo is =
     decided_waits n z (asks_at n z) (image_in_hand n z) refl (ap (λ (o : Option Decision). is_some o) is)
 
-pub did_change : (n : Inst) (core : Core) (z : ℕ) → Did n core (changed n z) (change_tells n z)
+pub did_change : (n : Inst) (core : Core) (z : ℕ) → Did n core false (changed n z) (change_tells n z)
 did_change n core z =
     change_as n core z (change_decided n z) refl (decided_waits n z (asks_at n z) (image_in_hand n z) refl)
 
 -- Mark
 
-mark_as : (n : Inst) (core : Core) (z : ℕ) (o : Option Redo) → end_decided n z ≡ o → Did n core (marked_by n z o) (tells_by n z o)
+mark_as : (n : Inst) (core : Core) (z : ℕ) (o : Option Redo) → end_decided n z ≡ o → Did n core false (marked_by n z o) (tells_by n z o)
 mark_as n core z None is = rests (keeps n) tt
 mark_as n core z (Some redo) is = marks z redo is refl refl
 
-pub did_mark : (n : Inst) (core : Core) (z : ℕ) → Did n core (marked n z) (mark_tells n z)
+pub did_mark : (n : Inst) (core : Core) (z : ℕ) → Did n core false (marked n z) (mark_tells n z)
 did_mark n core z = mark_as n core z (end_decided n z) refl
 
 -- StepBack
 
-step_as : (n : Inst) (core : Core) (z left : ℕ) (o : Option Redo) → record_of (back_decided n z) ≡ o → Did n core (stepped_by n z o) (undone o left)
+step_as : (n : Inst) (core : Core) (z left : ℕ) (o : Option Redo) → record_of (back_decided n z) ≡ o → Did n core false (stepped_by n z o) (undone o left)
 step_as n core z left None is = rests (keeps n) tt
 step_as n core z left (Some redo) is = steps z left redo is refl refl
 
-pub did_step_back : (n : Inst) (core : Core) (z : ℕ) → Did n core (stepped_back n z) (back_tells n z)
+pub did_step_back : (n : Inst) (core : Core) (z : ℕ) → Did n core false (stepped_back n z) (back_tells n z)
 did_step_back n core z = step_as n core z ((session_at n z).standing - 1) (record_of (back_decided n z)) refl
 
 -- EndStmt
@@ -230,13 +230,13 @@ end_still stmt answer.Plain = (refl, tt)
 end_still stmt answer.NoSavepoint = (refl, tt)
 end_still stmt answer.NotConnected = (refl, tt)
 
-end_as : (n : Inst) (core : Core) (z : ℕ) (o : Option Answer) → answer_at n z ≡ o → Did n core (ended_by n z o) (tells_if (stmt_at n z) o)
+end_as : (n : Inst) (core : Core) (z : ℕ) (o : Option Answer) → answer_at n z ≡ o → Did n core false (ended_by n z o) (tells_if (stmt_at n z) o)
 end_as n core z None is = rests (keeps n) tt
 end_as n core z (Some a) is =
     goes z (passed n z) (answer_waits n z (n.paused || is_none (line_now n z)) a is)
     (sets n _ z (ended_as (asks_at n z) a (session_at n z)) refl refl refl refl refl (le_refl n.clock.scn)) (end_still (stmt_at n z) a)
 
-pub did_end : (n : Inst) (core : Core) (z : ℕ) → Did n core (ended n z) (end_tells n z)
+pub did_end : (n : Inst) (core : Core) (z : ℕ) → Did n core false (ended n z) (end_tells n z)
 did_end n core z = end_as n core z (answer_at n z) refl
 
 -- Broadcast and Ack
@@ -254,7 +254,7 @@ durable_waits (Ends ending) x e =
 durable_waits Idle x e = absurd (none-some x e)
 durable_waits (Runs snapshot) x e = absurd (none-some x e)
 
-told_as : (n : Inst) (core : Core) (epoch z : ℕ) (o : Option Ending) → durable_ending n z ≡ o → Did n core (with_told n epoch z o) []
+told_as : (n : Inst) (core : Core) (epoch z : ℕ) (o : Option Ending) → durable_ending n z ≡ o → Did n core false (with_told n epoch z o) []
 told_as n core epoch z None is = rests (keeps n) tt
 told_as n core epoch z (Some x) is =
     rests (with_keeps n z (ending_by (told_in epoch x) (session_at n z)) (λ i. record {
@@ -263,15 +263,15 @@ told_as n core epoch z (Some x) is =
       awaits = (sym (durable_waits (session_at n z).doing x is).0) i;
     })) tt
 
-pub did_broadcast : (n : Inst) (core : Core) (z : ℕ) → Did n core (broadcast n core z) []
+pub did_broadcast : (n : Inst) (core : Core) (z : ℕ) → Did n core false (broadcast n core z) []
 did_broadcast n core z = told_as n core core.members.epoch z (durable_ending n z) refl
 
-ack_as : (n : Inst) (core : Core) (z : ℕ) (o : Option Ending) → durable_ending n z ≡ o → Did n core (with_acked n z o) (acked_tells (stmt_at n z) o)
+ack_as : (n : Inst) (core : Core) (z : ℕ) (o : Option Ending) → durable_ending n z ≡ o → Did n core false (with_acked n z o) (acked_tells (stmt_at n z) o)
 ack_as n core z None is = rests (keeps n) tt
 ack_as n core z (Some x) is =
     let it = durable_waits (session_at n z).doing x is in
     acks z (passed n z) (awaited_of x) (entry.Plain (stmt_at n z)) it.0 it.1
     (sets n _ z (acked_session (session_at n z)) refl refl refl refl refl (le_refl n.clock.scn)) refl refl
 
-pub did_ack : (n : Inst) (core : Core) (z : ℕ) → Did n core (acked n z) (acked_tells (stmt_at n z) (durable_ending n z))
+pub did_ack : (n : Inst) (core : Core) (z : ℕ) → Did n core false (acked n z) (acked_tells (stmt_at n z) (durable_ending n z))
 did_ack n core z = ack_as n core z (durable_ending n z) refl

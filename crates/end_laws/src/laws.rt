@@ -1,14 +1,18 @@
-ghost use Rattle.std.specs.Prelude.{List};
+ghost use Rattle.std.specs.Prelude.{◌≡◌, List, false};
 ghost use Rattle.rand_pcg.specs.Lcg.{Lcg};
 ghost use Rattle.rac_disk.specs.State.{State};
+ghost use Rattle.journal.specs.declared.entry.Entry.{Entry};
 ghost use Rattle.journal.specs.Good.{AckIsProper};
 ghost use Rattle.journal.specs.Past.{Each};
 ghost use Rattle.script_text.specs.ScriptParts.{ScriptParts};
 ghost use Rattle.script_text.specs.WellFormed.{IsWellFormed};
 ghost use Rattle.inst_node.specs.declared.actions.Step.{Step};
 ghost use Rattle.world_machine.specs.declared.worlds.World.{World};
+ghost use Rattle.world_machine.specs.Machine.{W};
 ghost use Rattle.world_machine.specs.Runs.{IsRun};
 ghost use Rattle.cluster_run.specs.First.{IsFirstWorld};
+ghost use Rattle.run_laws.specs.Runs.{Adds};
+ghost use Rattle.end_laws.specs.Marked.{CommitIsMarked, EachAdded, is_log_read};
 
 /// A law: in every run of a script a commit is answered only after its mark by that statement, and after it has entered,
 /// whatever crashes and whatever the disk does.
@@ -16,4 +20,13 @@ pub fn commits_are_answered_once_they_entered()
     ensures { (script : ScriptParts) (g : Lcg) (first : World) (disk : State) (book : List Step) (h : Lcg) (w : World)
         (disk_now : State) → IsWellFormed script → IsFirstWorld script first → IsRun g first disk book h w disk_now →
         Each AckIsProper w.core.journal }
+{}
+
+/// A law: in every run of a script an instance tells only of commits that are its own, each after its mark. Only what is read of
+/// the log of an instance that is gone may tell of others.
+pub fn a_commit_enters_after_its_mark()
+    ensures { (script : ScriptParts) (g : Lcg) (first : World) (disk : State) (book : List Step) (h : Lcg) (w : World)
+        (disk_now : State) → IsWellFormed script → IsFirstWorld script first → IsRun g first disk book h w disk_now →
+        (step : Step) (v : World) (disk_then : State) → W w disk_now step v disk_then → is_log_read step.action ≡ false →
+        (entries : List Entry) → Adds w v entries → EachAdded CommitIsMarked entries w.core.journal }
 {}

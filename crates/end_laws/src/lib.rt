@@ -4,4 +4,4 @@
 
 mod laws;
 
-pub use laws::commits_are_answered_once_they_entered;
+pub use laws::{a_commit_enters_after_its_mark, commits_are_answered_once_they_entered};
