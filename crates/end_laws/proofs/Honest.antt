@@ -377,7 +377,7 @@ sessions_tied n [] tied = tt
 sessions_tied n (end ∷ ends) tied = (session_tied n end end.session tied.0, sessions_tied n ends tied.1)
 
 -- what is told in front of a journal
-told_front : (me : ℕ) (ends : List WaitingEnd) (past : Past) → fold (commit_told me) past ends ≡ fold (commit_told me) [] ends ++ past
+pub told_front : (me : ℕ) (ends : List WaitingEnd) (past : Past) → fold (commit_told me) past ends ≡ fold (commit_told me) [] ends ++ past
 told_front me ends past =
     fold_front (commit_told me) (λ es js end. told_where end.commit (entry.Committed end.xid end.scn me) es js) ends [] past
 

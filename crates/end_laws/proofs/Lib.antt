@@ -1,11 +1,17 @@
 pub mod Backs
 pub mod ByKind
+pub mod Calmly
+pub mod CalmWorlds
+pub mod Counted
 pub mod Decisions
 pub mod Did
 pub mod Honest
 pub mod Making
 pub mod Marks
+pub mod Members
 pub mod Parts
 pub mod SessionSteps
+pub mod Slots
+pub mod Sound
 pub mod Stakes
 pub mod Worlds

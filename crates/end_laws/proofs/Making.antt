@@ -88,7 +88,7 @@ joins_fit : (n : Inst) (core : Core) (it : How) (old new : State) → JoinedAs n
 joins_fit n core (how.Joined it) old new left = join_fits n core it old new left
 joins_fit n core _ old new left = absurd left
 
-if_made : (n : Inst) (core : Core) (action : Action) (it : How) (old new : State) → needs n core action ≡ true → DiskAfter n core action it old new
+pub if_made : (n : Inst) (core : Core) (action : Action) (it : How) (old new : State) → needs n core action ≡ true → DiskAfter n core action it old new
     → IfMade action it (prepared n core action) (counted core n.plan.me action)
 unfolding prepared counted session_needs inst_needs line_needs plain_needs LineDisk
 if_made n core (Session session.StartStmt z) it old new may left =

@@ -50,7 +50,7 @@ pub record Owned (me seg : ℕ) (ends : List WaitingEnd) (past : Past) : Type 0 
 abbrev pub IsOwned : Inst → Past → Type 0
 IsOwned n past = Owned n.plan.me n.segment.head.front.seg n.ends past
 
-marked_on : (me : ℕ) (es past : Past) (ends : List WaitingEnd) → AllByRecursion (IsMarked me past) ends → AllByRecursion (IsMarked me (es ++ past)) ends
+pub marked_on : (me : ℕ) (es past : Past) (ends : List WaitingEnd) → AllByRecursion (IsMarked me past) ends → AllByRecursion (IsMarked me (es ++ past)) ends
 marked_on me es past [] all = tt
 marked_on me es past (end ∷ ends) all =
     ((λ commit. (let was = all.0 commit in (was.0, stood_on (is_mark end.xid end.scn) es past was.1))), marked_on me es past ends all.1)

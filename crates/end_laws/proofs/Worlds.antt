@@ -60,13 +60,13 @@ first_honest script i n past first =
       tied = tt;
     })
 
-first_backed : (script : ScriptParts) (w : World) → IsFirstWorld script w → Backed w
+pub first_backed : (script : ScriptParts) (w : World) → IsFirstWorld script w → Backed w
 first_backed script w first = record {
   insts = λ i n at. first_honest script i n w.core.journal (first_at_place script (first_core script).net.masters w.insts first.insts i n at);
   proper = subst (λ (c : Core). Each AckIsProper c.journal) (sym first.core) tt;
 }
 
-step_backed : (old : World) (disk : State) (step : Step) (new : World) (disk_now : State) → Made old disk step new disk_now → Backed old → Backed new
+pub step_backed : (old : World) (disk : State) (step : Step) (new : World) (disk_now : State) → Made old disk step new disk_now → Backed old → Backed new
 step_backed old disk step new disk_now made was =
     let n = made.n in
     let core = old.core in
@@ -97,7 +97,7 @@ run_backed script g first disk book h w disk_now starts run =
 abbrev pub AreOwned : World → Type 0
 AreOwned w = (i : ℕ) (n : Inst) → slice_get w.insts i ≡ Some n → IsOwned n w.core.journal
 
-first_owned : (script : ScriptParts) (i : ℕ) (n : Inst) (past : Past) → IsFirst script (first_core script).net.masters i n → IsOwned n past
+pub first_owned : (script : ScriptParts) (i : ℕ) (n : Inst) (past : Past) → IsFirst script (first_core script).net.masters i n → IsOwned n past
 first_owned script i n past first = record {
   seg_is = ap (λ (x : Inst). x.segment.head.front.seg) first.part;
   marked = subst (λ (l : List WaitingEnd). AllByRecursion (IsMarked n.plan.me past) l) (sym (ap (λ (x : Inst). x.ends) first.part)) tt;
@@ -115,7 +115,7 @@ step_owns old disk step new disk_now made was =
     (did n core action made.how disk disk_now made.needs made.moved.left)
     (owned_as n (ledger k) core.journal (prepared_keeps n core action).same (was step.inst n made.at))
 
-step_owned : (old : World) (disk : State) (step : Step) (new : World) (disk_now : State) → Made old disk step new disk_now → AreOwned old → AreOwned new
+pub step_owned : (old : World) (disk : State) (step : Step) (new : World) (disk_now : State) → Made old disk step new disk_now → AreOwned old → AreOwned new
 step_owned old disk step new disk_now made was y x at =
     let core = old.core in
     let es = tells made.n core step.action made.how in

@@ -1,9 +1,13 @@
-ghost use Rattle.std.specs.Prelude.{◌≡◌, List, false};
+ghost use Rattle.std.specs.Prelude.{◌≡◌, ℕ, List, Some, false, slice_get, true};
 ghost use Rattle.rand_pcg.specs.Lcg.{Lcg};
 ghost use Rattle.rac_disk.specs.State.{State};
 ghost use Rattle.journal.specs.declared.entry.Entry.{Entry};
-ghost use Rattle.journal.specs.Good.{AckIsProper};
+ghost use Rattle.base_types.specs.declared.names.Xid.{Xid};
+ghost use Rattle.undo_segment.specs.Begin.{next_xid};
+ghost use Rattle.inst_state.specs.declared.inst.Inst.{Inst};
+ghost use Rattle.journal.specs.Good.{AckIsProper, CommitIsProper};
 ghost use Rattle.journal.specs.Past.{Each};
+ghost use Rattle.journal.specs.Stood.{stood};
 ghost use Rattle.script_text.specs.ScriptParts.{ScriptParts};
 ghost use Rattle.script_text.specs.WellFormed.{IsWellFormed};
 ghost use Rattle.inst_node.specs.declared.actions.Step.{Step};
@@ -12,6 +16,8 @@ ghost use Rattle.world_machine.specs.Machine.{W};
 ghost use Rattle.world_machine.specs.Runs.{IsRun};
 ghost use Rattle.cluster_run.specs.First.{IsFirstWorld};
 ghost use Rattle.run_laws.specs.Runs.{Adds};
+ghost use Rattle.end_laws.specs.Calm.{is_calm};
+ghost use Rattle.end_laws.specs.Names.{names};
 ghost use Rattle.end_laws.specs.Marked.{CommitIsMarked, EachAdded, is_log_read};
 
 /// A law: in every run of a script a commit is answered only after its mark by that statement, and after it has entered,
@@ -29,4 +35,20 @@ pub fn a_commit_enters_after_its_mark()
         (disk_now : State) → IsWellFormed script → IsFirstWorld script first → IsRun g first disk book h w disk_now →
         (step : Step) (v : World) (disk_then : State) → W w disk_now step v disk_then → is_log_read step.action ≡ false →
         (entries : List Entry) → Adds w v entries → EachAdded CommitIsMarked entries w.core.journal }
+{}
+
+/// A law: in every run of a script in which no instance is lost, the transaction that an instance begins next is named in no entry.
+pub fn a_new_transaction_is_new()
+    ensures { (script : ScriptParts) (g : Lcg) (first : World) (disk : State) (book : List Step) (h : Lcg) (w : World)
+        (disk_now : State) → IsWellFormed script → IsFirstWorld script first → IsRun g first disk book h w disk_now →
+        is_calm w.core.journal ≡ true → (i : ℕ) (n : Inst) → slice_get w.insts i ≡ Some n →
+        (x : Xid) → next_xid n.segment ≡ Some x → stood (names x) w.core.journal ≡ false }
+{}
+
+/// A law: in every run of a script in which no instance is lost, a transaction commits on its own instance, after its mark,
+/// once, and at no SCN at which another one of the instance has committed; nothing of it follows.
+pub fn a_transaction_commits_once()
+    ensures { (script : ScriptParts) (g : Lcg) (first : World) (disk : State) (book : List Step) (h : Lcg) (w : World)
+        (disk_now : State) → IsWellFormed script → IsFirstWorld script first → IsRun g first disk book h w disk_now →
+        is_calm w.core.journal ≡ true → Each CommitIsProper w.core.journal }
 {}
