@@ -86,7 +86,7 @@ first_world script w first = record {
 
 -- a step
 
-calm_kept : (n m : Inst) (past : Past) → Keeps n m → IsCalm n past → IsCalm m past
+pub calm_kept : (n m : Inst) (past : Past) → Keeps n m → IsCalm n past → IsCalm m past
 calm_kept n m past kept was =
     subst (λ (l : Ledger). CalmAs l m.clock.scn past) (sym kept.same) (calm_on (ledger n) n.clock.scn m.clock.scn [] past kept.clock tt was)
 
@@ -103,7 +103,7 @@ below_has n (suc (suc (suc (suc (suc (suc (suc zero))))))) less few = lt-ltb 7 n
 below_has n (suc (suc (suc (suc (suc (suc (suc (suc y)))))))) less few = absurd (omega arith)
 
 -- where all instances are members and the cluster runs, none recovers
-rests_not : (script : ScriptParts) (core : Core) (me : ℕ) → AreWhole script core.members → me < script.settings.instances → me < 8 → IsUnrest core me → ⊥
+pub rests_not : (script : ScriptParts) (core : Core) (me : ℕ) → AreWhole script core.members → me < script.settings.instances → me < 8 → IsUnrest core me → ⊥
 rests_not script core me whole less few (inl is) =
     let runs : is_running core.members.phase ≡ true = ap (λ (m : Membership). is_running m.phase) whole in
     let no : true ≡ false = sym runs ∙ is in cc
@@ -173,7 +173,7 @@ step_calm script old disk step new disk_now fit made was backed calm =
       proper = subst (λ (j : Past). Each CommitIsProper j) (sym told) goes.proper;
     }
 
-step_known : (script : ScriptParts) (old : World) (disk : State) (step : Step) (new : World) (disk_now : State) → IsWellFormed script → Made old disk step new disk_now
+pub step_known : (script : ScriptParts) (old : World) (disk : State) (step : Step) (new : World) (disk_now : State) → IsWellFormed script → Made old disk step new disk_now
     → Known script old → Known script new
 step_known script old disk step new disk_now fit made was =
     let backed = step_backed old disk step new disk_now made was.backed in
@@ -184,19 +184,22 @@ step_known script old disk step new disk_now fit made was =
       calm = λ calm. step_calm script old disk step new disk_now fit made was backed calm;
     }
 
+pub first_known : (script : ScriptParts) (w : World) → IsWellFormed script → IsFirstWorld script w → Known script w
+first_known script w fit first = record {
+  lines = first_lines script w fit first;
+  backed = first_backed script w first;
+  owned = λ i n at. first_owned script i n w.core.journal (first_at_place script (first_core script).net.masters w.insts first.insts i n at);
+  calm = λ calm. first_world script w first;
+}
+
 pub run_known : (script : ScriptParts) (g : Lcg) (first : World) (disk : State) (book : List Step) (h : Lcg) (w : World) (disk_now : State)
     → IsWellFormed script → IsFirstWorld script first → IsRun g first disk book h w disk_now → Known script w
 run_known script g first disk book h w disk_now fit starts run =
     run_keeps (λ (v : World) (d : State). Known script v)
     (λ v d step u e made was. step_known script v d step u e fit (made_of v d step u e made) was)
-    g first disk book h w disk_now run (record {
-      lines = first_lines script first fit starts;
-      backed = first_backed script first starts;
-      owned = λ i n at. first_owned script i n first.core.journal (first_at_place script (first_core script).net.masters first.insts starts.insts i n at);
-      calm = λ calm. first_world script first starts;
-    })
+    g first disk book h w disk_now run (first_known script first fit starts)
 
-calm_is : (b : Bool) → not b ≡ true → b ≡ false
+pub calm_is : (b : Bool) → not b ≡ true → b ≡ false
 calm_is true e = absurd (let no : false ≡ true = e in cc)
 calm_is false e = refl
 

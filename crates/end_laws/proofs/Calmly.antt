@@ -278,21 +278,21 @@ whose_makes n past redo e own x (begins none next) of one heavy small mine was =
     }
 
 -- the decision by which a row is changed
-change_by : (n : Inst) (z : ℕ) (row : ℕ) (asks : Option Asks) (o : Option BlockContent) (redo : Redo) → image_in_hand n z ≡ o → decided_of n z asks ≡ Some (Do redo)
+pub change_by : (n : Inst) (z : ℕ) (asks : Option Asks) (o : Option BlockContent) (redo : Redo) → image_in_hand n z ≡ o → decided_of n z asks ≡ Some (Do redo)
     → IsChange (session_at n z).own n.segment n.clock redo
-change_by n z row (Some (Change at wish)) (Some image) redo is e =
+change_by n z (Some (Change at wish)) (Some image) redo is e =
     change_made (ask_of n z at wish) image n.segment (handed_at n z) n.clock (on_disk n) redo
     (same_Some (decided_on n z at wish image) (Do redo) (sym (ap (λ (o : Option BlockContent). option_map (decided_on n z at wish) o) is) ∙ e))
-change_by n z row (Some (Change at wish)) None redo is e =
+change_by n z (Some (Change at wish)) None redo is e =
     absurd (none-some (Do redo) (sym (ap (λ (o : Option BlockContent). option_map (decided_on n z at wish) o) is) ∙ e))
-change_by n z row _ o redo is e = absurd (none-some (Do redo) e)
+change_by n z _ o redo is e = absurd (none-some (Do redo) e)
 
 go_changes : (n : Inst) (past : Past) (z : ℕ) (redo : Redo) → change_decided n z ≡ Some (Do redo) → HasWraps n.segment.head → n.segment.head.front.seg ≡ n.plan.me
     → IsCalm n past → Each CommitIsProper past
     → Goes n.plan.me (row_changed n z redo) (record_tells (stmt_at n z) (row_of (asks_at n z)) redo redo.kind ∷ []) past
 go_changes n past z redo is small mine was proper =
     let e = record_tells (stmt_at n z) (row_of (asks_at n z)) redo redo.kind in
-    let it = change_by n z 0 (asks_at n z) (image_in_hand n z) redo refl is in
+    let it = change_by n z (asks_at n z) (image_in_hand n z) redo refl is in
     let makes = whose_makes n past redo e (session_at n z).own it.x it.whose it.of (row_one (stmt_at n z) (row_of (asks_at n z)) redo redo.kind)
     (row_weight (stmt_at n z) (row_of (asks_at n z)) redo redo.kind) small mine was in
     record {
@@ -327,7 +327,7 @@ go_steps n past z left redo is mine was proper =
     record {
       calm = record {
         leads_not = was.leads_not;
-        sound = subst (λ (l : List WaitingEnd). Sound n.plan.me (head_of n.segment.head redo) (max n.clock.scn redo.scn) l (e ∷ past)) refl (made_sound n past redo true e makes was.sound);
+        sound = made_sound n past redo true e makes was.sound;
         wraps = made_wraps n past redo true e makes was.wraps;
       };
       proper = (made_uncommitted n past redo true e makes, proper);
@@ -336,10 +336,10 @@ go_steps n past z left redo is mine was proper =
 
 -- a mark
 
-all_ready_apart : (n : Inst) (x : Xid) (scn : Scn) (past : Past) (end : WaitingEnd) (ends : List WaitingEnd) → is_under_way n.segment.head x ≡ true → end.xid ≡ x → n.clock.scn < end.scn
+all_ready_apart : (n : Inst) (x : Xid) (past : Past) (end : WaitingEnd) (ends : List WaitingEnd) → is_under_way n.segment.head x ≡ true → end.xid ≡ x → n.clock.scn < end.scn
     → AllByRecursion (IsReady n.plan.me n.segment.head n.clock.scn past) ends → AreApart ends → AreApart (ends ++ end ∷ [])
-all_ready_apart n x scn past end [] under named above ready apart = (tt, tt)
-all_ready_apart n x scn past end (other ∷ ends) under named above ready apart = (
+all_ready_apart n x past end [] under named above ready apart = (tt, tt)
+all_ready_apart n x past end (other ∷ ends) under named above ready apart = (
   all_append (IsApart other) ends (end ∷ []) apart.0 (
     record {
       xid = not_so (same_xid end.xid other.xid) (λ same. under_unspent n.segment.head x under
@@ -348,7 +348,7 @@ all_ready_apart n x scn past end (other ∷ ends) under named above ready apart 
     },
     tt,
   ),
-  all_ready_apart n x scn past end ends under named above ready.1 apart.1,
+  all_ready_apart n x past end ends under named above ready.1 apart.1,
 )
 
 go_marks : (n : Inst) (past : Past) (z : ℕ) (redo : Redo) (commit : Bool) → end_decided n z ≡ Some redo → n.segment.head.front.seg ≡ n.plan.me
@@ -380,7 +380,7 @@ go_marks n past z redo commit is mine was proper =
             },
             tt,
           );
-          apart = all_ready_apart n it.x n.clock.scn past end n.ends it.is.under it.is.of.xid (omega (arith, next)) was.sound.ready was.sound.apart;
+          apart = all_ready_apart n it.x past end n.ends it.is.under it.is.of.xid (omega (arith, next)) was.sound.ready was.sound.apart;
         };
         wraps = made_wraps n past redo false e makes was.wraps;
       };
@@ -508,7 +508,7 @@ stood_front test (x ∷ xs) ys is = by (or_cases (test x) (stood test xs) is) (s
     by (inl here) later = or_left (test x) (stood test (xs ++ ys)) here
     by (inr there) later = or_right (test x) (stood test (xs ++ ys)) (later there)
 
-lost_is : (k : Inst) (it : Loss) (kept : Option ℕ) (log past : Past) → stood is_loss (lost_tells k it kept ++ log ++ past) ≡ true
+pub lost_is : (k : Inst) (it : Loss) (kept : Option ℕ) (log past : Past) → stood is_loss (lost_tells k it kept ++ log ++ past) ≡ true
 lost_is k it kept log past =
     stood_front is_loss (lost_tells k it kept ++ log) past (stood_front is_loss (lost_tells k it kept) log
     (stood_on is_loss (fold (with_refusal k) [] k.plan.mine) (loss_entry k it ∷ kept_tells k kept)

@@ -9,6 +9,9 @@ pub mod Honest
 pub mod Making
 pub mod Marks
 pub mod Members
+pub mod OwnSteps
+pub mod OwnWorlds
+pub mod Owning
 pub mod Parts
 pub mod SessionSteps
 pub mod Slots

@@ -164,21 +164,25 @@ change_as n core z (Some decision.AlreadyMine) is free =
     (refl, tt)
 change_as n core z _ is free = rests (keeps n) tt
 
-decided_waits : (n : Inst) (z : ℕ) (asks : Option Asks) (o : Option BlockContent) → image_in_hand n z ≡ o → is_some (decided_of n z asks) ≡ true
-    → (stake_at n z).awaits ≡ None
-decided_waits n z (Some (Change row wish)) (Some image) is e = in_hand_waits n z image is
-decided_waits n z (Some (Change row wish)) None is e =
+decided_runs : (n : Inst) (z : ℕ) (asks : Option Asks) (o : Option BlockContent) → image_in_hand n z ≡ o → is_some (decided_of n z asks) ≡ true
+    → is_some (snapshot_of (session_at n z).doing) ≡ true
+decided_runs n z (Some (Change row wish)) (Some image) is e = hand_runs n z (needed n z) image refl is
+decided_runs n z (Some (Change row wish)) None is e =
     absurd (let no : false ≡ true = sym (ap (λ (o : Option BlockContent). is_some (option_map (decided_on n z row wish) o)) is) ∙ e in cc)
-decided_waits n z _ o is e = absurd (let no : false ≡ true = e in cc)
+decided_runs n z _ o is e = absurd (let no : false ≡ true = e in cc)
+
+-- a session whose row is changed has its line under way
+pub change_runs : (n : Inst) (z : ℕ) (redo : Redo) → change_decided n z ≡ Some (decision.Do redo) → is_some (snapshot_of (session_at n z).doing) ≡ true
+change_runs n z redo is = decided_runs n z (asks_at n z) (image_in_hand n z) refl (ap (λ (o : Option Decision). is_some o) is)
 
 -- a session whose row is changed waits for no end
 pub change_free : (n : Inst) (z : ℕ) (redo : Redo) → change_decided n z ≡ Some (decision.Do redo) → (stake_at n z).awaits ≡ None
-change_free n z redo is =
-    decided_waits n z (asks_at n z) (image_in_hand n z) refl (ap (λ (o : Option Decision). is_some o) is)
+change_free n z redo is = runs_waits (session_at n z).doing (change_runs n z redo is)
 
 pub did_change : (n : Inst) (core : Core) (z : ℕ) → Did n core false (changed n z) (change_tells n z)
 did_change n core z =
-    change_as n core z (change_decided n z) refl (decided_waits n z (asks_at n z) (image_in_hand n z) refl)
+    change_as n core z (change_decided n z) refl
+    (λ some. runs_waits (session_at n z).doing (decided_runs n z (asks_at n z) (image_in_hand n z) refl some))
 
 -- Mark
 

@@ -1,4 +1,4 @@
-ghost use Rattle.std.specs.Prelude.{◌≡◌, ℕ, List, Some, false, slice_get, true};
+ghost use Rattle.std.specs.Prelude.{◌≡◌, ◌<◌, ℕ, List, [], length, Some, false, slice_get, slice_index_or, true};
 ghost use Rattle.rand_pcg.specs.Lcg.{Lcg};
 ghost use Rattle.rac_disk.specs.State.{State};
 ghost use Rattle.journal.specs.declared.entry.Entry.{Entry};
@@ -7,7 +7,9 @@ ghost use Rattle.undo_segment.specs.Begin.{next_xid};
 ghost use Rattle.inst_state.specs.declared.inst.Inst.{Inst};
 ghost use Rattle.journal.specs.Good.{AckIsProper, CommitIsProper};
 ghost use Rattle.journal.specs.Past.{Each};
+ghost use Rattle.journal.specs.Sees.{own};
 ghost use Rattle.journal.specs.Stood.{stood};
+ghost use Rattle.inst_state.specs.State.{session_at};
 ghost use Rattle.script_text.specs.ScriptParts.{ScriptParts};
 ghost use Rattle.script_text.specs.WellFormed.{IsWellFormed};
 ghost use Rattle.inst_node.specs.declared.actions.Step.{Step};
@@ -51,4 +53,13 @@ pub fn a_transaction_commits_once()
     ensures { (script : ScriptParts) (g : Lcg) (first : World) (disk : State) (book : List Step) (h : Lcg) (w : World)
         (disk_now : State) → IsWellFormed script → IsFirstWorld script first → IsRun g first disk book h w disk_now →
         is_calm w.core.journal ≡ true → Each CommitIsProper w.core.journal }
+{}
+
+/// A law: in every run of a script in which no instance is lost, each session that has lines on an instance owns there the
+/// transaction that the journal says: the one that it changed or locked rows by last, while that is open.
+pub fn a_session_owns_what_the_journal_says()
+    ensures { (script : ScriptParts) (g : Lcg) (first : World) (disk : State) (book : List Step) (h : Lcg) (w : World)
+        (disk_now : State) → IsWellFormed script → IsFirstWorld script first → IsRun g first disk book h w disk_now →
+        is_calm w.core.journal ≡ true → (i : ℕ) (n : Inst) → slice_get w.insts i ≡ Some n →
+        (z : ℕ) → 0 < length (slice_index_or n.plan.lines z []) → (session_at n z).own ≡ own z w.core.journal }
 {}

@@ -5,6 +5,6 @@
 mod laws;
 
 pub use laws::{
-    a_commit_enters_after_its_mark, a_new_transaction_is_new, a_transaction_commits_once,
-    commits_are_answered_once_they_entered,
+    a_commit_enters_after_its_mark, a_new_transaction_is_new, a_session_owns_what_the_journal_says,
+    a_transaction_commits_once, commits_are_answered_once_they_entered,
 };
