@@ -86,10 +86,12 @@ below_has n (suc (suc (suc (suc (suc (suc zero)))))) less few = lt-ltb 6 n less
 below_has n (suc (suc (suc (suc (suc (suc (suc zero))))))) less few = lt-ltb 7 n less
 below_has n (suc (suc (suc (suc (suc (suc (suc (suc y)))))))) less few = absurd (omega arith)
 
-first_holds : (script : ScriptParts) → Holds script (rule_of (first_core script)) []
-first_holds script = record {
+first_holds : (script : ScriptParts) → IsWellFormed script → Holds script (rule_of (first_core script)) []
+first_holds script fit = record {
   shape = fresh_of script.waves;
   first = omega arith;
+  within = (let some : 0 < length script.waves = fit.has_wave in omega (arith, some));
+  small = omega arith;
   done = λ j c here less. absurd (omega (arith, less));
   unanswered = λ j c here open_. refl;
   asked = tt;
@@ -110,10 +112,10 @@ first_ruled script i n fit within first =
       begun = λ line of. absurd (subst (λ (xs : List Begun). IsOf line (map (λ (begun : Begun). begun.line) xs)) (ap (λ (x : Inst). x.wave.checkpoints) first.part) of);
     }
 
-first_commands : (script : ScriptParts) (w : World) → IsWellFormed script → IsFirstWorld script w → Commands script w
+pub first_commands : (script : ScriptParts) (w : World) → IsWellFormed script → IsFirstWorld script w → Commands script w
 first_commands script w fit first = record {
   lines = first_lines script w fit first;
-  holds = subst (λ (c : Core). Holds script (rule_of c) c.journal) (sym first.core) (first_holds script);
+  holds = subst (λ (c : Core). Holds script (rule_of c) c.journal) (sym first.core) (first_holds script fit);
   insts = λ i n there. subst (λ (c : Core). IsRuled script (rule_of c) c.journal i n) (sym first.core)
       (first_ruled script i n fit (let known = slice_get_within w.insts i n there in let count = first.count in omega (arith, known, count))
       (first_at_place script (first_core script).net.masters w.insts first.insts i n there));
@@ -121,27 +123,31 @@ first_commands script w fit first = record {
 
 -- a step
 
-next_of : (script : ScriptParts) (n m : Inst) (core now : Core) (past es : List Entry) (i : ℕ) → IsWellFormed script → m.plan.me ≡ i → Ruled n core m now es
+next_of : (script : ScriptParts) (n m : Inst) (core now : Core) (past es : List Entry) (i : ℕ) → IsWellFormed script → core.waves.count ≡ length script.waves → m.plan.me ≡ i → Ruled n core m now es
     → Holds script (rule_of core) past → IsRuled script (rule_of core) past i n → Next script (rule_of core) (rule_of now) past es i m
-next_of script n m core now past es i fit mine (rests same rule q) h own = next_rests script (rule_of core) (rule_of now) past es i n m same rule q h own
-next_of script n m core now past es i fit mine (enters life begins rule q) h own =
+next_of script n m core now past es i fit count mine (rests same rule q) h own = next_rests script (rule_of core) (rule_of now) past es i n m same rule q h own
+next_of script n m core now past es i fit count mine (enters life begins rule q) h own =
     next_enters script n m core (rule_of now) past es i fit life (mine ∙ sym own.me) begins rule q h own
-next_of script n m core now past es i fit mine (comes c is start live life lines waves lives none) h own =
+next_of script n m core now past es i fit count mine (comes c is start live life lines waves lives none) h own =
     subst (λ (l : List Entry). Next script (rule_of core) (rule_of now) past l i m) (sym none)
     (next_comes script n m core (rule_of now) past i c is start live life lines (mine ∙ sym own.me)
     (λ t. record { controls = (waves t).controls; wave = (waves t).wave; live = lives t }) h own)
-next_of script n m core now past es i fit mine (rises line was life lines rule told) h own =
+next_of script n m core now past es i fit count mine (rises line was life lines rule told) h own =
     next_rises script (rule_of core) (rule_of now) past es i n m line fit was life lines mine rule told h own
-next_of script n m core now past es i fit mine (answers c e is life lines rule how_ told) h own =
+next_of script n m core now past es i fit count mine (answers c e is life lines rule how_ told) h own =
     next_answers script n m core (rule_of now) past es i c e fit is life lines mine rule how_ told h own
-next_of script n m core now past es i fit mine (loses e later first life lines how_ wave live q1 q2 told) h own =
+next_of script n m core now past es i fit count mine (loses e later first life lines how_ wave live q1 q2 told) h own =
     next_loses script n m core (rule_of now) past es later first e i fit life lines mine how_ wave live q1 q2 told h own
-next_of script n m core now past es i fit mine (turns same all waves live none) h own =
-    next_turns script n m core (rule_of now) past es i fit same all (λ t. record { controls = (waves t).controls; wave = (waves t).wave; live = live t }) none h own
+next_of script n m core now past es i fit count mine (turns same all waves live none) h own =
+    next_turns script n m core (rule_of now) past es i fit count same all (λ t. record { controls = (waves t).controls; wave = (waves t).wave; live = live t }) none h own
 
 pub counted_rule : (core : Core) (me : ℕ) (action : Action) → rule_of (counted core me action) ≡ rule_of core
 unfolding counted
 counted_rule core me action = refl
+
+counted_count : (core : Core) (me : ℕ) (action : Action) → (counted core me action).waves.count ≡ core.waves.count
+unfolding counted
+counted_count core me action = refl
 
 -- what a step leaves of it
 pub step_next : (script : ScriptParts) (old : World) (disk : State) (step : Step) (new : World) (disk_now : State) → IsWellFormed script
@@ -160,7 +166,7 @@ step_next script old disk step new disk_now fit made was lines =
     let there : slice_get new.insts i ≡ Some m = ap (λ (l : List Inst). slice_get l i) made.moved.insts ∙ set_here old.insts i m made.within in
     let mine : m.plan.me ≡ i = ap (λ (p : PlanParts). p.me) (lines.insts i m there).plan in
     let same = counted_rule core n.plan.me action in
-    let next = next_of script k m core1 (core_after n core action made.how) core.journal es i fit mine (ruled n core action made.how made.needs)
+    let next = next_of script k m core1 (core_after n core action made.how) core.journal es i fit (counted_count core n.plan.me action ∙ was.lines.waves) mine (ruled n core action made.how made.needs)
     (subst (λ (r : Rule). Holds script r core.journal) (sym same) was.holds)
     (subst (λ (r : Rule). IsRuled script r core.journal i k) (sym same)
     (own_kept script (rule_of core) core.journal i n k (prepared_keeps n core action) (was.insts i n made.at))) in

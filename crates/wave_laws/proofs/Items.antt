@@ -77,12 +77,17 @@ rises_apart before most (z ∷ xs) ys x y rises (inl same) k =
     let is : z.0 ≡ x.0 = ap (λ (w : ℕ × Item). w.0) same in omega (arith, up, is)
 rises_apart before most (z ∷ xs) ys x y rises (inr h) k = rises_apart z.0 most xs ys x y rises.2 h k
 
-rises_at : (before most : ℕ) (waves : List (List (ℕ × Item))) (j : ℕ) → RiseWithin before most (joined waves)
+pub rises_at : (before most : ℕ) (waves : List (List (ℕ × Item))) (j : ℕ) → RiseWithin before most (joined waves)
     → (b : ℕ) × RiseWithin b most (slice_index_or waves j [])
 rises_at before most [] j rises = (before, tt)
 rises_at before most (w ∷ waves) zero rises = (before, rises_left before most w (joined waves) rises)
 rises_at before most (w ∷ waves) (suc j) rises =
     let more = rises_right before most w (joined waves) rises in rises_at more.0 most waves j more.1
+
+-- an item of a wave is the one there with its number
+pub found_at : (script : ScriptParts) (j n : ℕ) (it : Item) → IsWellFormed script → Stands (n, it) (items_at script j) → item_in (items_at script j) n ≡ Some it
+found_at script j n it fit stands =
+    let rises = rises_at 0 script.lines script.waves j fit.lines_rise in found rises.0 script.lines (items_at script j) n it rises.1 stands
 
 -- a number stands in one wave
 pub wave_once : (before most : ℕ) (waves : List (List (ℕ × Item))) (i j : ℕ) (x y : ℕ × Item) → RiseWithin before most (joined waves)
@@ -104,7 +109,7 @@ pub record IsItem (script : ScriptParts) (j : ℕ) (c : Control) : Type 0 where
   pub in_wave : item_in (items_at script j) c.line ≡ Some it
   pub in_script : item_at script c.line ≡ Some it
 
-in_append : (c : Control) (xs ys : List Control) → IsIn c (xs ++ ys) → IsIn c xs ⊎ IsIn c ys
+pub in_append : (c : Control) (xs ys : List Control) → IsIn c (xs ++ ys) → IsIn c xs ⊎ IsIn c ys
 in_append c [] ys h = inr h
 in_append c (x ∷ xs) ys (inl same) = inl (inl same)
 in_append c (x ∷ xs) ys (inr h) = by (in_append c xs ys h)

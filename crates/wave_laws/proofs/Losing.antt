@@ -1,7 +1,7 @@
 -- What the loss of an instance, and a new wave, leave true of the control lines.
 use Rattle.std.proofs.Common.{◌≡◌, ℕ, ◌+◌, ◌-◌, ◌^◌, ◌<◌, ◌≤◌, min, Bool, true, false, List, [], ◌∷◌, ◌++◌, length, Some, if◌then◌else◌, refl, sym, ap, subst, ◌∙◌, ◌⊎◌, inl, inr, arith, append_assoc}
 use Rattle.std.specs.Prelude.{not, slice_set}
-use Rattle.std.proofs.lemmas.Bool.{cases_eq, eq-eqb, ne_eqb}
+use Rattle.std.proofs.lemmas.Bool.{leb-false, cases_eq, eq-eqb, ne_eqb}
 use Rattle.std.proofs.lemmas.List.{length-set}
 use Rattle.inst_set.specs.Sets.{without_inst}
 use Rattle.journal.specs.declared.entry.Entry.{Entry}
@@ -39,7 +39,7 @@ record Fallen (script : ScriptParts) (rule now : Rule) (first : Past) (e : Entry
 others_live : (script : ScriptParts) (rule : Rule) (past : Past) (live : List Bool) → length live ≡ 8 → Holds script rule past
     → Holds script (record rule { live = record { present = live } }) past
 others_live script rule past live eight h =
-    record { shape = h.shape; first = h.first; done = h.done; unanswered = h.unanswered; asked = h.asked; eight = eight }
+    record { shape = h.shape; first = h.first; within = h.within; small = h.small; done = h.done; unanswered = h.unanswered; asked = h.asked; eight = eight }
 
 fallen_next : (script : ScriptParts) (rule now : Rule) (past : Past) (later first : List Entry) (e : Entry) (i : ℕ) (n m : Inst) → m.life ≡ Down
     → begun_lines m ≡ begun_lines n → m.plan.me ≡ i → Calms later → Calms first → Fallen script rule now (first ++ past) e i
@@ -100,7 +100,7 @@ fallen_start script rule now first me i bad (Joining line) fit is wave h own joi
     (λ y k apart it. still_joining script now first y k j.by fit h j.here (λ same start. apart (sym (ap maker (sym j.wanted ∙ start)))) (joining y k apart it)))
 
 -- a due line asks for a crash
-due_wanted : (script : ScriptParts) (core : Core) (past : Past) (me : ℕ) (c : Control) → IsWellFormed script → Holds script (rule_of core) past → IsOpen core c
+pub due_wanted : (script : ScriptParts) (core : Core) (past : Past) (me : ℕ) (c : Control) → IsWellFormed script → Holds script (rule_of core) past → IsOpen core c
     → (due : IsDue core me c.line) → c.wanted ≡ Crash me due.wants.0 due.wants.1
 due_wanted script core past me c fit h is due =
     same_wanted script (core.waves.wave - 1) (core.waves.wave - 1) c due.by (item_of script core.waves.controls (core.waves.wave - 1) c fit h.shape is.here)
@@ -189,10 +189,19 @@ rises_from : (last : Bool) (wave : ℕ) → 1 ≤ wave → 1 ≤ (if last then w
 rises_from true wave le = le
 rises_from false wave le = omega (arith, le)
 
-pub next_turns : (script : ScriptParts) (n m : Inst) (core : Core) (now : Rule) (past es : List Entry) (i : ℕ) → IsWellFormed script → Keeps n m
+rises_below : (last : Bool) (wave count : ℕ) → wave ≤ count → (last ≡ false → wave < count) → (if last then wave else min (wave + 1) (2 ^ 32 - 1)) ≤ count
+rises_below true wave count le less = le
+rises_below false wave count le less = let up : wave < count = less refl in omega (arith, up)
+
+rises_small : (last : Bool) (wave : ℕ) → wave ≤ 2 ^ 32 - 1 → (if last then wave else min (wave + 1) (2 ^ 32 - 1)) ≤ 2 ^ 32 - 1
+rises_small true wave le = le
+rises_small false wave le = omega arith
+
+pub next_turns : (script : ScriptParts) (n m : Inst) (core : Core) (now : Rule) (past es : List Entry) (i : ℕ) → IsWellFormed script
+    → core.waves.count ≡ length script.waves → Keeps n m
     → are_answered core ≡ true → now ≡ record { controls = core.waves.controls; wave = (next_wave core.waves).wave; live = core.members.live } → es ≡ []
     → Holds script (rule_of core) past → IsRuled script (rule_of core) past i n → Next script (rule_of core) now past es i m
-next_turns script n m core now past es i fit same all is told h own =
+next_turns script n m core now past es i fit count same all is told h own =
     let r : Rule = record { controls = core.waves.controls; wave = (next_wave core.waves).wave; live = core.members.live } in
     let none : (y line : ℕ) → IsJoining (rule_of core) y line → ⊥ =
     λ y line j. (let no : true ≡ false = sym (all_done (wave_controls core.waves) j.by all j.here) ∙ j.open_ in cc) in
@@ -211,6 +220,9 @@ next_turns script n m core now past es i fit same all is told h own =
       holds = record {
         shape = h.shape;
         first = rises_from (is_last core.waves) core.waves.wave h.first;
+        within = rises_below (is_last core.waves) core.waves.wave (length script.waves) h.within
+            (λ e. (let less : core.waves.wave < core.waves.count = leb-false core.waves.count core.waves.wave e in omega (arith, less, count)));
+        small = rises_small (is_last core.waves) core.waves.wave h.small;
         done = λ j c here less. done_at j c here (omega (arith, less, within)) (cases_eq j (core.waves.wave - 1));
         unanswered = h.unanswered;
         asked = h.asked;

@@ -1,5 +1,5 @@
 -- What holds of the control lines as a step is made.
-use Rattle.std.proofs.Common.{◌≡◌, ℕ, ◌+◌, ◌-◌, ◌<◌, ◌≤◌, Bool, true, false, List, [], ◌∷◌, ◌++◌, length, map, Option, Some, None, refl, sym, ap, subst, ◌∙◌}
+use Rattle.std.proofs.Common.{◌≡◌, ℕ, ◌+◌, ◌-◌, ◌^◌, ◌<◌, ◌≤◌, Bool, true, false, List, [], ◌∷◌, ◌++◌, length, map, Option, Some, None, refl, sym, ap, subst, ◌∙◌}
 use Rattle.std.specs.Prelude.{◌==◌, not, IsSomeAnd, IfSome}
 use Rattle.std.specs.Option.{option_map_or}
 use Rattle.std.proofs.lemmas.Bool.{ne_eqb, or_from}
@@ -28,6 +28,8 @@ use Rattle.wave_laws.proofs.Ruled.{begun_lines, Calms, closed, is_calm, IsIn, Is
 pub record Holds (script : ScriptParts) (rule : Rule) (past : Past) : Type 0 where
   pub shape : map (map fresh) rule.controls ≡ controls_of script.waves
   pub first : 1 ≤ rule.wave
+  pub within : rule.wave ≤ length script.waves
+  pub small : rule.wave ≤ 2 ^ 32 - 1
   pub done : (j : ℕ) (c : Control) → IsIn c (at rule.controls j) → j + 1 < rule.wave → c.done ≡ true
   pub unanswered : (j : ℕ) (c : Control) → IsIn c (at rule.controls j) → c.done ≡ false → stood (names_line c.line) past ≡ false
   pub asked : AreControlsAsked script past
@@ -85,6 +87,8 @@ pub quiet : (script : ScriptParts) (rule : Rule) (past : Past) (e : Entry) → c
 quiet script rule past e is h = record {
   shape = h.shape;
   first = h.first;
+  within = h.within;
+  small = h.small;
   done = h.done;
   unanswered = λ j c here open_. or_from (names_line c.line e) (stood (names_line c.line) past) (names_none c.line e is) (h.unanswered j c here open_);
   asked = (none_asked script past e is, h.asked);
@@ -101,6 +105,8 @@ pub tell : (script : ScriptParts) (rule : Rule) (past : Past) (e : Entry) (line 
 tell script rule past e line is asked_ new none h = record {
   shape = h.shape;
   first = h.first;
+  within = h.within;
+  small = h.small;
   done = h.done;
   unanswered = λ j c here open_. or_from (names_line c.line e) (stood (names_line c.line) past)
       (names_one c.line line e is ∙ ne_eqb line c.line (λ same. none j c here open_ (sym same))) (h.unanswered j c here open_);
@@ -117,6 +123,8 @@ pub close : (script : ScriptParts) (rule : Rule) (past : Past) (line : ℕ) → 
 close script rule past line h = record {
   shape = closed_shape rule line ∙ h.shape;
   first = h.first;
+  within = h.within;
+  small = h.small;
   done = λ j c here less. closed_done script rule past line j c h (was rule line j c here) less;
   unanswered = λ j c here open_. (
       let w = was rule line j c here in

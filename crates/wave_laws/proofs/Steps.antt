@@ -172,7 +172,7 @@ pub next_comes : (script : ScriptParts) (n m : Inst) (core : Core) (now : Rule) 
 next_comes script n m core now past i c is start live life lines me is_now h own =
     let r : Rule = record { controls = core.waves.controls; wave = core.waves.wave; live = with_inst core.members.live n.plan.me } in
     subst (λ (q : Rule). Next script (rule_of core) q past [] i m) (sym is_now) (record {
-      holds = record { shape = h.shape; first = h.first; done = h.done; unanswered = h.unanswered; asked = h.asked; eight = length-set core.members.live.present n.plan.me true ∙ h.eight };
+      holds = record { shape = h.shape; first = h.first; within = h.within; small = h.small; done = h.done; unanswered = h.unanswered; asked = h.asked; eight = length-set core.members.live.present n.plan.me true ∙ h.eight };
       own = record {
         me = me ∙ own.me;
         few = own.few;
@@ -281,12 +281,12 @@ away_own script n core past i c e a own (moves bucket to move is) line life same
 away_own script n core past i c e a own (checks of is) line life same start = start_not_check script (core.waves.wave - 1) c i a start (own.begun c.line of)
 
 -- what such an answer tells
-record Told (script : ScriptParts) (c : Control) (e : Entry) : Type 0 where
-  names : control_line e ≡ Some c.line
-  asked : IsSomeAnd (item_at script c.line) (λ it. asks_for e it ≡ true)
-  up : (y : ℕ) (before : Bool) → up_after y e before ≡ before
+pub record Told (script : ScriptParts) (c : Control) (e : Entry) : Type 0 where
+  pub names : control_line e ≡ Some c.line
+  pub asked : IsSomeAnd (item_at script c.line) (λ it. asks_for e it ≡ true)
+  pub up : (y : ℕ) (before : Bool) → up_after y e before ≡ before
 
-told_by : (script : ScriptParts) (n : Inst) (core : Core) (past : Past) (i : ℕ) (c : Control) (e : Entry) → IsItem script (core.waves.wave - 1) c
+pub told_by : (script : ScriptParts) (n : Inst) (core : Core) (past : Past) (i : ℕ) (c : Control) (e : Entry) → IsItem script (core.waves.wave - 1) c
     → IsRuled script (rule_of core) past i n → Answers n core c e → Told script c e
 told_by script n core past i c e a own (skips by none is) =
     subst (λ (x : Entry). Told script c x) (sym is) (record {

@@ -1,4 +1,4 @@
-ghost use Rattle.std.specs.Prelude.{List};
+ghost use Rattle.std.specs.Prelude.{◌≡◌, List, true};
 ghost use Rattle.rand_pcg.specs.Lcg.{Lcg};
 ghost use Rattle.rac_disk.specs.State.{State};
 ghost use Rattle.script_text.specs.ScriptParts.{ScriptParts};
@@ -7,7 +7,7 @@ ghost use Rattle.inst_node.specs.declared.actions.Step.{Step};
 ghost use Rattle.world_machine.specs.declared.worlds.World.{World};
 ghost use Rattle.world_machine.specs.Runs.{IsRun};
 ghost use Rattle.cluster_run.specs.First.{IsFirstWorld};
-ghost use Rattle.wave_laws.specs.Controls.{AreControlsAsked};
+ghost use Rattle.wave_laws.specs.Controls.{AreControlsAsked, controls_have_turns};
 
 /// A law: in every run of a script each entry that names a control line answers one that asks for it, and no two name one line,
 /// whatever the disk does.
@@ -15,4 +15,12 @@ pub fn each_control_line_is_answered_once()
     ensures { (script : ScriptParts) (g : Lcg) (first : World) (disk : State) (book : List Step) (h : Lcg) (w : World)
         (disk_now : State) → IsWellFormed script → IsFirstWorld script first → IsRun g first disk book h w disk_now →
         AreControlsAsked script w.core.journal }
+{}
+
+/// A law: in every run of a script each control line is answered in its wave, which the whole journal tells at that place: all lines of
+/// the earlier waves are answered there, by an entry or by the end of an instance, and the line isn't.
+pub fn each_control_line_has_its_turn()
+    ensures { (script : ScriptParts) (g : Lcg) (first : World) (disk : State) (book : List Step) (h : Lcg) (w : World)
+        (disk_now : State) → IsWellFormed script → IsFirstWorld script first → IsRun g first disk book h w disk_now →
+        controls_have_turns script w.core.journal ≡ true }
 {}

@@ -3,4 +3,4 @@
 
 mod laws;
 
-pub use laws::each_control_line_is_answered_once;
+pub use laws::{each_control_line_has_its_turn, each_control_line_is_answered_once};
