@@ -6,6 +6,7 @@ pub mod Effects
 pub mod Ending
 pub mod Items
 pub mod Losing
+pub mod Over
 pub mod Reached
 pub mod Ruled
 pub mod Rules

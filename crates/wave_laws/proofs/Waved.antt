@@ -351,7 +351,7 @@ open_at [] j c h = absurd h
 open_at (w ∷ waves) zero c h = open_in w c h
 open_at (w ∷ waves) (suc j) c h = open_at waves j c h
 
-first_waved : (script : ScriptParts) (w : World) → IsWellFormed script → IsFirstWorld script w → Waved script w
+pub first_waved : (script : ScriptParts) (w : World) → IsWellFormed script → IsFirstWorld script w → Waved script w
 first_waved script w fit first = record {
   commands = first_commands script w fit first;
   tells = λ ever fits. subst (λ (c : Core). Tells script ever c.waves.controls c.waves.wave c.journal) (sym first.core)
@@ -380,7 +380,7 @@ step_effect script old disk step new disk_now fit made was =
     subst (λ (c : Core). Effect script (rule_of core) (rule_of c) core.journal es i) (sym made.moved.core)
     (subst (λ (r : Rule). Effect script r (rule_of now) core.journal es i) same effect)
 
-step_waved : (script : ScriptParts) (old : World) (disk : State) (step : Step) (new : World) (disk_now : State) → IsWellFormed script
+pub step_waved : (script : ScriptParts) (old : World) (disk : State) (step : Step) (new : World) (disk_now : State) → IsWellFormed script
     → Made old disk step new disk_now → Waved script old → Waved script new
 step_waved script old disk step new disk_now fit made was =
     let commands = step_commands script old disk step new disk_now fit made was.commands in

@@ -7,6 +7,7 @@ ghost use Rattle.inst_node.specs.declared.actions.Step.{Step};
 ghost use Rattle.world_machine.specs.declared.worlds.World.{World};
 ghost use Rattle.world_machine.specs.Runs.{IsRun};
 ghost use Rattle.cluster_run.specs.First.{IsFirstWorld};
+ghost use Rattle.good_run.specs.Good.{is_whole};
 ghost use Rattle.wave_laws.specs.Controls.{AreControlsAsked, controls_have_turns};
 
 /// A law: in every run of a script each entry that names a control line answers one that asks for it, and no two name one line,
@@ -23,4 +24,11 @@ pub fn each_control_line_has_its_turn()
     ensures { (script : ScriptParts) (g : Lcg) (first : World) (disk : State) (book : List Step) (h : Lcg) (w : World)
         (disk_now : State) → IsWellFormed script → IsFirstWorld script first → IsRun g first disk book h w disk_now →
         controls_have_turns script w.core.journal ≡ true }
+{}
+
+/// A law: a run of a script whose last wave is over has answered each line of it, its control lines included.
+pub fn a_run_that_is_over_is_whole()
+    ensures { (script : ScriptParts) (g : Lcg) (first : World) (disk : State) (book : List Step) (h : Lcg) (w : World)
+        (disk_now : State) → IsWellFormed script → IsFirstWorld script first → IsRun g first disk book h w disk_now →
+        w.core.waves.over ≡ true → is_whole script w.core.journal ≡ true }
 {}

@@ -3,4 +3,6 @@
 
 mod laws;
 
-pub use laws::{each_control_line_has_its_turn, each_control_line_is_answered_once};
+pub use laws::{
+    a_run_that_is_over_is_whole, each_control_line_has_its_turn, each_control_line_is_answered_once,
+};
