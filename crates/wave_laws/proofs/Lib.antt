@@ -1,0 +1,15 @@
+pub mod ByKind
+pub mod Closing
+pub mod Commands
+pub mod Current
+pub mod Effects
+pub mod Ending
+pub mod Items
+pub mod Losing
+pub mod Over
+pub mod Reached
+pub mod Ruled
+pub mod Rules
+pub mod Steps
+pub mod Timed
+pub mod Waved
