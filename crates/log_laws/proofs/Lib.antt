@@ -1,0 +1,17 @@
+pub mod Bytes
+pub mod Cluster
+pub mod Sets
+pub mod Moves
+pub mod Leaving
+pub mod Coming
+pub mod Thawing
+pub mod Quiet
+pub mod Keeps
+pub mod Files
+pub mod ByDisk
+pub mod ByThread
+pub mod ByOpen
+pub mod ByKind
+pub mod Facts
+pub mod Runs
+pub mod Firsts

@@ -1,0 +1,33 @@
+ghost use Rattle.std.specs.Prelude.{◌≡◌, List, true, is_some, IsSomeAnd};
+ghost use Rattle.rand_pcg.specs.Lcg.{Lcg};
+ghost use Rattle.rac_disk.specs.State.{State};
+ghost use Rattle.script_text.specs.ScriptParts.{ScriptParts};
+ghost use Rattle.script_text.specs.WellFormed.{IsWellFormed};
+ghost use Rattle.first_state.specs.declared.creation.Created.TheVariants.{Whole};
+ghost use Rattle.first_state.specs.Plan.{layout_of};
+ghost use Rattle.inst_node.specs.declared.actions.Step.{Step};
+ghost use Rattle.world_machine.specs.declared.worlds.World.{World};
+ghost use Rattle.world_machine.specs.Runs.{IsRun};
+ghost use Rattle.cluster_run.specs.First.{IsFirstWorld};
+ghost use Rattle.cluster_run.specs.Runs.{IsCreated};
+ghost use Rattle.log_laws.specs.Logs.{HasGoodLogs, HasRightLogs};
+ghost use Rattle.log_laws.specs.Sound.{IsSoundRun};
+
+/// A law: in every run over a database made anew, on a disk that tells what it holds, whatever crashes and whichever calls fail, the
+/// disk has all of the log that an open thread holds to be durable, and with what waits it is whole records; and each log is whole
+/// records, and then nothing or one cut short. Each step of the run is to be such that its record can be written, a checkpoint's
+/// position is the end of a record, and who joins with nobody live has no redo left of its former life.
+pub fn a_live_thread_has_its_log()
+    ensures { (script : ScriptParts) (g : Lcg) (first : World) (disk created : State) (book : List Step) (h : Lcg) (w : World)
+        (disk_now : State) (run : IsRun g first created book h w disk_now) → IsWellFormed script → IsFirstWorld script first →
+        is_some disk.told ≡ true → IsCreated (layout_of script) Whole disk created →
+        IsSoundRun g first created book h w disk_now run → IsSomeAnd disk_now.told (HasRightLogs w) }
+{}
+
+/// A law: after every such run no log is one that no run leaves, so that an audit of the disk doesn't meet one.
+pub fn logs_stay_right()
+    ensures { (script : ScriptParts) (g : Lcg) (first : World) (disk created : State) (book : List Step) (h : Lcg) (w : World)
+        (disk_now : State) (run : IsRun g first created book h w disk_now) → IsWellFormed script → IsFirstWorld script first →
+        is_some disk.told ≡ true → IsCreated (layout_of script) Whole disk created →
+        IsSoundRun g first created book h w disk_now run → IsSomeAnd disk_now.told HasGoodLogs }
+{}

@@ -1,0 +1,7 @@
+//! What the redo logs hold in every run of the cluster: an open thread has its whole log on the disk, and each log is whole records,
+//! and then nothing or one cut short.
+#![tactic(auto)]
+
+mod laws;
+
+pub use laws::{a_live_thread_has_its_log, logs_stay_right};
