@@ -1,6 +1,5 @@
 -- A picture's text. Each shape is an element with its attributes, closed where it stands; what a label says is escaped.
-use Rattle.std.specs.Prelude.{ℕ, ◌≤◌, ◌==◌, ◌&&◌, Bool, true, false, List, [], ◌∷◌, ◌++◌, codes, decimal, flat_map, if◌then◌else◌, nat_le, string_bytes}
-use Rattle.run_picture.specs.declared.shapes.Look.{Look}
+use Rattle.std.specs.Prelude.{ℕ, ◌==◌, ◌&&◌, Bool, List, [], ◌∷◌, ◌++◌, codes, decimal, flat_map, if◌then◌else◌, nat_le, not, string_bytes}
 use Rattle.run_picture.specs.declared.shapes.Picture.{Picture}
 use Rattle.run_picture.specs.declared.shapes.Shape.{Shape}
 use Rattle.run_picture.specs.declared.shapes.Shape.TheVariants.{Box, Line, Tip, Label}
@@ -24,6 +23,10 @@ escaped_byte byte =
 -- A text between two tags.
 abbrev pub escaped : List ℕ → List ℕ
 escaped text = flat_map escaped_byte text
+
+-- Whether a byte is printable ASCII and neither begins nor ends a tag.
+abbrev pub is_between_tags : ℕ → Bool
+is_between_tags byte = nat_le 32 byte && nat_le byte 126 && not (byte == 60) && not (byte == 62)
 
 -- An attribute with a number.
 abbrev pub number_text : List ℕ → ℕ → List ℕ

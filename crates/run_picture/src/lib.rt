@@ -3,6 +3,7 @@
 
 mod drawing;
 mod entry_words;
+mod laws;
 mod picture;
 mod shapes;
 mod sign_words;
@@ -11,7 +12,11 @@ mod svg;
 mod telling;
 mod turns;
 
+pub use laws::labels_hold_no_tags;
 pub use picture::{LONGEST, picture_text};
 pub use shapes::{Look, Picture, Shape};
 pub use svg::svg_text;
 pub use turns::{Sign, Turn};
+
+#[cfg(test)]
+mod tests;
