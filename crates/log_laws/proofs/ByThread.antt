@@ -76,7 +76,7 @@ own_reads n core f i rs here all =
     own_kept (shared_of core) f i (own_of n) (with_reads n core rs) here refl refl (λ cl. ((here.idle cl).up, (here.idle cl).none)) (omega arith) (λ e. all)
 
 -- the entry that a read found is the one that is there
-found_entry : (s : Shared) (f : Files) (it : Content) (t : ℕ) (entry : ControlEntry) → files_of it ≡ f → ThreadAt s f t → HasEntry t entry it
+pub found_entry : (s : Shared) (f : Files) (it : Content) (t : ℕ) (entry : ControlEntry) → files_of it ≡ f → ThreadAt s f t → HasEntry t entry it
     → (e : EntryIs (log_in f t) (control_in f t) (open_in s t)) × ((e.entry.status ≡ entry.status) × (e.entry.position ≡ entry.position))
 found_entry s f it t entry same thread has_it =
     let e = thread.entry in

@@ -15,3 +15,4 @@ pub mod ByKind
 pub mod Facts
 pub mod Runs
 pub mod Firsts
+pub mod Reading

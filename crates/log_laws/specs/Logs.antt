@@ -1,5 +1,5 @@
 -- What the redo logs of a cluster hold.
-use Rattle.std.specs.Prelude.{◌≡◌, ℕ, ◌<◌, ◌&&◌, not, Bool, true, List, ◌++◌, length, map, Some, slice_get}
+use Rattle.std.specs.Prelude.{◌≡◌, ℕ, ◌<◌, ◌&&◌, not, ◌⊎◌, Bool, true, false, List, ◌++◌, length, map, Some, slice_get}
 use Rattle.log_history.specs.Logs.{IsFirstWrong, IsRight}
 use Rattle.inst_state.specs.declared.inst.Inst.{Inst}
 use Rattle.world_machine.specs.declared.worlds.World.{World}
@@ -8,7 +8,16 @@ use Rattle.redo_types.specs.declared.redo.Redo.{Redo}
 use Rattle.redo_record.specs.Front.{log_bytes}
 use Rattle.redo_record.specs.Redo.{IsRedo}
 use Rattle.redo_thread.specs.Thread.{ThreadState}
-use Rattle.rac_disk.specs.Content.{Content, log_at}
+use Rattle.base_types.specs.declared.layout.Layout.{Layout}
+use Rattle.part_image.specs.Cells.{Begins}
+use Rattle.control_image.specs.declared.entry.ControlEntry.{ControlEntry}
+use Rattle.control_image.specs.Entry.{entry_bytes}
+use Rattle.rac_disk.specs.Content.{Content, control_at, log_at}
+use Rattle.thread_steps.specs.Entries.{has_small_numbers}
+use Rattle.thread_steps.specs.Found.{are_small}
+use Rattle.thread_steps.specs.Versions.{HasBadOne, named_blocks}
+use Rattle.thread_steps.specs.declared.found.Found.{Found}
+use Rattle.thread_steps.specs.declared.found.Found.TheVariants as found
 use Rattle.inst_set.specs.Sets.{has}
 use Rattle.inst_state.specs.declared.shared.Core.{Core}
 use Rattle.inst_state.specs.Shared.{is_live}
@@ -37,3 +46,17 @@ pub record HasRightLogs (w : World) (it : Content) : Type 0 where
 -- No log of a disk is one that no run leaves.
 abbrev pub HasGoodLogs : Content → Type 0
 HasGoodLogs it = (thread place : ℕ) → IsFirstWrong (map (λ log. log.bytes) it.logs) thread place → ⊥
+
+-- The control entry of a thread has a number that no run comes near.
+pub record HasLargeNumbers (thread : ℕ) (it : Content) : Type 0 where
+  pub entry : ControlEntry
+  pub stands : Begins (control_at it thread) (entry_bytes entry)
+  pub large : has_small_numbers entry ≡ false
+
+-- Why a thread is told to be such as no run leaves it: its entry has a number that no run comes near, or one of its records
+-- has, or a block that they name isn't what a run leaves there. Its log alone never is the reason.
+abbrev pub IsBadFor : Layout → ℕ → Found → Content → Type 0
+IsBadFor layout thread (found.Unread true) it = HasLargeNumbers thread it
+IsBadFor layout thread (found.Stopped log true) it =
+    (are_small log.read.records ≡ false) ⊎ HasBadOne layout (named_blocks log.read.records) it
+IsBadFor layout thread _ it = Unit {0}

@@ -1,4 +1,4 @@
-ghost use Rattle.std.specs.Prelude.{◌≡◌, List, true, is_some, IsSomeAnd};
+ghost use Rattle.std.specs.Prelude.{◌≡◌, ◌<◌, ℕ, List, true, is_some, IsSomeAnd};
 ghost use Rattle.rand_pcg.specs.Lcg.{Lcg};
 ghost use Rattle.rac_disk.specs.State.{State};
 ghost use Rattle.script_text.specs.ScriptParts.{ScriptParts};
@@ -10,7 +10,10 @@ ghost use Rattle.world_machine.specs.declared.worlds.World.{World};
 ghost use Rattle.world_machine.specs.Runs.{IsRun};
 ghost use Rattle.cluster_run.specs.First.{IsFirstWorld};
 ghost use Rattle.cluster_run.specs.Runs.{IsCreated};
-ghost use Rattle.log_laws.specs.Logs.{HasGoodLogs, HasRightLogs};
+ghost use Rattle.thread_steps.specs.Found.{FindsThread};
+ghost use Rattle.thread_steps.specs.declared.found.Found.{Found};
+ghost use Rattle.base_types.specs.declared.layout.Layout.{Layout};
+ghost use Rattle.log_laws.specs.Logs.{HasGoodLogs, HasRightLogs, IsBadFor};
 ghost use Rattle.log_laws.specs.Sound.{IsSoundRun};
 
 /// A law: in every run over a database made anew, on a disk that tells what it holds, whatever crashes and whichever calls fail, the
@@ -30,4 +33,14 @@ pub fn logs_stay_right()
         (disk_now : State) (run : IsRun g first created book h w disk_now) → IsWellFormed script → IsFirstWorld script first →
         is_some disk.told ≡ true → IsCreated (layout_of script) Whole disk created →
         IsSoundRun g first created book h w disk_now run → IsSomeAnd disk_now.told HasGoodLogs }
+{}
+
+/// A law: where a dead thread is read in such a run and told to be such as no run leaves it, that isn't for its log: its control entry
+/// or one of its records has a number that no run comes near, or a block that they name isn't what a run leaves there.
+pub fn a_dead_thread_is_read()
+    ensures { (script : ScriptParts) (g : Lcg) (first : World) (disk created : State) (book : List Step) (h : Lcg) (w : World)
+        (disk_now later : State) (layout : Layout) (thread : ℕ) (found : Found) (run : IsRun g first created book h w disk_now) →
+        IsWellFormed script → IsFirstWorld script first → is_some disk.told ≡ true → IsCreated (layout_of script) Whole disk created →
+        IsSoundRun g first created book h w disk_now run → thread < 8 → FindsThread layout thread found disk_now later →
+        IsSomeAnd disk_now.told (IsBadFor layout thread found) }
 {}
