@@ -28,9 +28,6 @@ const LETTER: u32 = 7;
 /// The room at a lane's edges, and between lanes.
 const EDGE: u32 = 8;
 
-/// The height of what stands above the rows, but for the legend.
-const TOP: u32 = 62;
-
 /// The width of a word of the legend.
 const SAMPLE: u32 = 132;
 
@@ -107,10 +104,15 @@ impl Plan {
         (self.width() / SAMPLE).max(1)
     }
 
+    /// Where the note below the legend stands.
+    fn note(&self) -> u32 {
+        let lines = 8 / self.samples() + 1;
+        ROW.saturating_mul(lines).saturating_add(40)
+    }
+
     /// Where the rows begin.
     fn top(&self) -> u32 {
-        let lines = 9 / self.samples() + 1;
-        TOP + ROW.saturating_mul(lines)
+        self.note().saturating_add(44)
     }
 
     fn row(&self, at: u32) -> u32 {
@@ -254,7 +256,13 @@ impl Pen {
             self.sample(at, look, text)?;
             at = at.saturating_add(1);
         }
-        Ok(())
+        let y = self.plan.note();
+        self.label(
+            EDGE,
+            y,
+            "A number before words is a line of the script.",
+            Look::Words,
+        )
     }
 
     fn head(&mut self, inst: InstNo) -> Result<(), NoMemory> {

@@ -28,9 +28,7 @@ fn picture_of(
     let story = tell(alloc, script, journal, turns, from, LONGEST)?;
     let steps = turns.len();
     let last = story.last();
-    let title = format!(in alloc;
-        "Steps {from} to {last} of {steps}. A number before words is a line of the script."
-    )?;
+    let title = format!(in alloc; "Steps {from} to {last} of {steps}")?;
     draw(alloc, title.as_str(), script.settings().instances, &story)
 }
 

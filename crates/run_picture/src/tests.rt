@@ -258,6 +258,6 @@ fn a_long_run_is_cut(rt: HostRuntime) -> Result<(), Fail> {
         .filter(|line| line.ends_with(">forces its redo</text>"))
         .count();
     assert_eq!(rt; rows, LONGEST as usize);
-    assert!(rt; text.as_str().contains(">Steps 500 to 659 of 1000."));
+    assert!(rt; text.as_str().contains(">Steps 500 to 659 of 1000<"));
     Ok(())
 }
