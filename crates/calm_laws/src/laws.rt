@@ -1,4 +1,0 @@
-/// A law.
-pub fn images_are_coherent()
-    ensures { Unit {0} }
-{}
