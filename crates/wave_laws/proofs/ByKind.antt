@@ -328,7 +328,7 @@ losing : (n k : Inst) (core core1 : Core) → Keeps n k → rule_of core1 ≡ ru
     → Ruled n core (lost k) (lost_core k core1 it kept) (lost_tells k it kept ++ more)
 losing n k core core1 same rule it kept more q how_ =
     let is : rule_of (loss_told k (kept_told k core1 kept) it) ≡ loss_rule n core it = lost_rule k core1 it kept ∙ loss_same n k core core1 same rule it in
-    loses (loss_entry k it) (fold (with_refusal k) [] k.plan.mine) (kept_tells k kept ++ more) refl (lost_lines k ∙ same.lines)
+    loses same.entered (loss_entry k it) (fold (with_refusal k) [] k.plan.mine) (kept_tells k kept ++ more) refl (lost_lines k ∙ same.lines)
     (subst (λ (c : List (List Control)). Loses n core c (loss_entry k it)) (sym (ap (λ (r : Rule). r.controls) is)) how_)
     (ap (λ (r : Rule). r.wave) is ∙ loss_wave n core it)
     (ap (λ (r : Rule). without_inst r.live k.plan.me) is ∙ ap (λ (l : InstSet). without_inst l k.plan.me) (loss_live n core it)
@@ -370,10 +370,10 @@ kind_calm stmt row redo _ = refl
 
 change_ruled : (n : Inst) (core : Core) (z : ℕ) (o : Option Decision) → Ruled n core (changed_as n z o) (telling core (decision_tells n z o)) (decision_tells n z o)
 change_ruled n core z (Some (decision.Do redo)) =
-    rests (record { life = refl; lines = refl; me = refl }) refl (kind_calm (stmt_at n z) (row_of (asks_at n z)) redo redo.kind, tt)
-change_ruled n core z (Some (decision.Refuse it)) = rests (record { life = refl; lines = refl; me = refl }) refl (refl, tt)
-change_ruled n core z (Some (decision.Restart end)) = rests (record { life = refl; lines = refl; me = refl }) refl (refl, tt)
-change_ruled n core z (Some decision.AlreadyMine) = rests (record { life = refl; lines = refl; me = refl }) refl (refl, tt)
+    rests (record { life = refl; lines = refl; me = refl; entered = refl }) refl (kind_calm (stmt_at n z) (row_of (asks_at n z)) redo redo.kind, tt)
+change_ruled n core z (Some (decision.Refuse it)) = rests (record { life = refl; lines = refl; me = refl; entered = refl }) refl (refl, tt)
+change_ruled n core z (Some (decision.Restart end)) = rests (record { life = refl; lines = refl; me = refl; entered = refl }) refl (refl, tt)
+change_ruled n core z (Some decision.AlreadyMine) = rests (record { life = refl; lines = refl; me = refl; entered = refl }) refl (refl, tt)
 change_ruled n core z _ = rests (keeps n) refl tt
 
 end_calm : (stmt : ℕ) (redo : Redo) (commit : Bool) → is_calm (mark_entry stmt redo commit) ≡ true
@@ -383,11 +383,11 @@ end_calm stmt redo false = refl
 mark_ruled : (n : Inst) (core : Core) (z : ℕ) (o : Option Redo) → Ruled n core (marked_by n z o) (telling core (tells_by n z o)) (tells_by n z o)
 mark_ruled n core z None = rests (keeps n) refl tt
 mark_ruled n core z (Some redo) =
-    rests (record { life = refl; lines = refl; me = refl }) refl (end_calm (stmt_at n z) redo (commits (end_kind n z)), tt)
+    rests (record { life = refl; lines = refl; me = refl; entered = refl }) refl (end_calm (stmt_at n z) redo (commits (end_kind n z)), tt)
 
 back_ruled : (n : Inst) (core : Core) (z left : ℕ) (o : Option Redo) → Ruled n core (stepped_by n z o) (telling core (undone o left)) (undone o left)
 back_ruled n core z left None = rests (keeps n) refl tt
-back_ruled n core z left (Some redo) = rests (record { life = refl; lines = refl; me = refl }) refl (refl, tt)
+back_ruled n core z left (Some redo) = rests (record { life = refl; lines = refl; me = refl; entered = refl }) refl (refl, tt)
 
 answer_calm : (stmt : ℕ) (a : Answer) → is_calm (answer_tells stmt a) ≡ true
 answer_calm stmt answer.Plain = refl
@@ -397,18 +397,18 @@ answer_calm stmt answer.NotConnected = refl
 end_ruled : (n : Inst) (core : Core) (z : ℕ) (o : Option Answer)
     → Ruled n core (ended_by n z o) (telling core (tells_if (stmt_at n z) o)) (tells_if (stmt_at n z) o)
 end_ruled n core z None = rests (keeps n) refl tt
-end_ruled n core z (Some a) = rests (record { life = refl; lines = refl; me = refl }) refl (answer_calm (stmt_at n z) a, tt)
+end_ruled n core z (Some a) = rests (record { life = refl; lines = refl; me = refl; entered = refl }) refl (answer_calm (stmt_at n z) a, tt)
 
 read_ruled : (n : Inst) (core : Core) (z : ℕ) (it : AskedUndo) → is_live core n.plan.me ≡ true
     → Ruled n core (read_undo n z it) (undo_read_core n core it) (undo_read_tells n it)
-read_ruled n core z (asked_for.Read (undo_read.Head head)) live = rests (record { life = refl; lines = refl; me = refl }) refl tt
-read_ruled n core z (asked_for.Read (undo_read.Block block)) live = rests (record { life = refl; lines = refl; me = refl }) refl tt
+read_ruled n core z (asked_for.Read (undo_read.Head head)) live = rests (record { life = refl; lines = refl; me = refl; entered = refl }) refl tt
+read_ruled n core z (asked_for.Read (undo_read.Block block)) live = rests (record { life = refl; lines = refl; me = refl; entered = refl }) refl tt
 read_ruled n core z (asked_for.Read undo_read.Failed) live = stop_here n core live false
 read_ruled n core z _ live = stop_here n core live true
 
 ask_where : (n : Inst) (core : Core) (z : ℕ) (sent : Core) (there : Bool) (it : AskedUndo) → rule_of sent ≡ rule_of core → is_live core n.plan.me ≡ true
     → Ruled n core (if there then undo_asked n z else read_undo n z it) (if there then sent else undo_read_core n core it) (if there then [] else undo_read_tells n it)
-ask_where n core z sent true it rule live = rests (record { life = refl; lines = refl; me = refl }) rule tt
+ask_where n core z sent true it rule live = rests (record { life = refl; lines = refl; me = refl; entered = refl }) rule tt
 ask_where n core z sent false it rule live = read_ruled n core z it live
 
 ask_at : (n : Inst) (core : Core) (z : ℕ) (o : Option Place) (it : AskedUndo) → is_live core n.plan.me ≡ true
@@ -425,7 +425,7 @@ ask_by n core z (Some Sense) it live = stop_here n core live true
 told_ruled : (n : Inst) (core : Core) (epoch z : ℕ) (o : Option Ending) → Ruled n core (with_told n epoch z o) (with_news n core o) []
 told_ruled n core epoch z None = rests (keeps n) refl tt
 told_ruled n core epoch z (Some ending) =
-    rests (record { life = refl; lines = refl; me = refl }) (others_rule n.plan.me n.clock.scn ending.scn core) tt
+    rests (record { life = refl; lines = refl; me = refl; entered = refl }) (others_rule n.plan.me n.clock.scn ending.scn core) tt
 
 ack_calm : (stmt : ℕ) (commit : Bool) (ending : Ending) → is_calm (if commit then entry.Acked stmt ending.xid ending.scn else entry.Plain stmt) ≡ true
 ack_calm stmt true ending = refl
@@ -434,23 +434,23 @@ ack_calm stmt false ending = refl
 ack_ruled : (n : Inst) (core : Core) (z : ℕ) (o : Option Ending) → Ruled n core (with_acked n z o) (ack_told core (stmt_at n z) o) (acked_tells (stmt_at n z) o)
 ack_ruled n core z None = rests (keeps n) refl tt
 ack_ruled n core z (Some ending) =
-    rests (record { life = refl; lines = refl; me = refl }) refl (ack_calm (stmt_at n z) ending.commit ending, tt)
+    rests (record { life = refl; lines = refl; me = refl; entered = refl }) refl (ack_calm (stmt_at n z) ending.commit ending, tt)
 
 -- the dead transaction
 
 dead_mark_ruled : (n : Inst) (core : Core) (o : Option Redo) → Ruled n core (dead_marked_by n o) (telling core (dead_tells_by o)) (dead_tells_by o)
 dead_mark_ruled n core None = rests (keeps n) refl tt
-dead_mark_ruled n core (Some redo) = rests (record { life = refl; lines = refl; me = refl }) refl (refl, tt)
+dead_mark_ruled n core (Some redo) = rests (record { life = refl; lines = refl; me = refl; entered = refl }) refl (refl, tt)
 
 dead_back_ruled : (n : Inst) (core : Core) (o : Option Redo) → Ruled n core (dead_stepped_by n o) (telling core (undone o 0)) (undone o 0)
 dead_back_ruled n core None = rests (keeps n) refl tt
-dead_back_ruled n core (Some redo) = rests (record { life = refl; lines = refl; me = refl }) refl (refl, tt)
+dead_back_ruled n core (Some redo) = rests (record { life = refl; lines = refl; me = refl; entered = refl }) refl (refl, tt)
 
 -- blocks
 
 ask_block_ruled : (n : Inst) (core : Core) (number : ℕ) (o : Option Mode) → Ruled n core (asked_in n number o) (ask_sent_in n core number o) []
 ask_block_ruled n core number None = rests (keeps n) refl tt
-ask_block_ruled n core number (Some mode) = rests (record { life = refl; lines = refl; me = refl }) refl tt
+ask_block_ruled n core number (Some mode) = rests (record { life = refl; lines = refl; me = refl; entered = refl }) refl tt
 
 gave_rule : (n : Inst) (core : Core) (number : ℕ) (o : Option ℕ) → rule_of (gave_up n core number o) ≡ rule_of core
 gave_rule n core number None = refl
@@ -469,12 +469,16 @@ undo_left_lines : (wave : OwnWave) (o : Option ℕ)
 undo_left_lines wave None = refl
 undo_left_lines wave (Some k) = same_lines (without_undo k) (λ begun. refl) wave.checkpoints
 
+undo_left_entered : (wave : OwnWave) (o : Option ℕ) → (undo_left wave o).entered ≡ wave.entered
+undo_left_entered wave None = refl
+undo_left_entered wave (Some k) = refl
+
 written_ruled : (n : Inst) (core : Core) (number : ℕ) (what : Target) → Ruled n core (written_as n number what) (write_told_as n core number what) []
 written_ruled n core number Data =
-    rests (record { life = refl; lines = without_lines n number; me = refl }) (wrote_rule n core number (current_image n number)) tt
-written_ruled n core number (Adopted at) = rests (record { life = refl; lines = refl; me = refl }) refl tt
+    rests (record { life = refl; lines = without_lines n number; me = refl; entered = refl }) (wrote_rule n core number (current_image n number)) tt
+written_ruled n core number (Adopted at) = rests (record { life = refl; lines = refl; me = refl; entered = refl }) refl tt
 written_ruled n core number Own =
-    rests (record { life = refl; lines = undo_left_lines n.wave (place_in n.segment number); me = refl }) refl tt
+    rests (record { life = refl; lines = undo_left_lines n.wave (place_in n.segment number); me = refl; entered = undo_left_entered n.wave (place_in n.segment number) }) refl tt
 
 write_ruled : (n : Inst) (core : Core) (number : ℕ) (it : Written) → is_live core n.plan.me ≡ true
     → Ruled n core (block_written n number it) (write_told n core number it) (write_tells n it)
@@ -483,7 +487,7 @@ write_ruled n core number written.Failed live = stop_here n core live false
 
 recover_ruled : (n : Inst) (core : Core) (number : ℕ) (it : Recovered) → is_live core n.plan.me ≡ true
     → Ruled n core (recover n core number it) (recovered_core n core number it) (recover_tells n it)
-recover_ruled n core number (recovered.Done stood version) live = rests (record { life = refl; lines = refl; me = refl }) refl tt
+recover_ruled n core number (recovered.Done stood version) live = rests (record { life = refl; lines = refl; me = refl; entered = refl }) refl tt
 recover_ruled n core number (recovered.Unwritten stood) live = stop_here n core live false
 recover_ruled n core number (recovered.Unrolled stood) live = stop_here n core live true
 recover_ruled n core number recovered.Bad live = stop_here n core live true
@@ -511,6 +515,10 @@ either_lines : (b : Bool) (x y : OwnWave) (lines : List ℕ) → map (λ (begun 
 either_lines true x y lines first second = first
 either_lines false x y lines first second = second
 
+either_entered : (b : Bool) (x y : OwnWave) (entered : ℕ) → x.entered ≡ entered → y.entered ≡ entered → (if b then x else y).entered ≡ entered
+either_entered true x y entered first second = first
+either_entered false x y entered first second = second
+
 gone_ruled : (n k : Inst) (core core1 : Core) → Keeps n k → rule_of core1 ≡ rule_of core → (o : Option Granted)
     → Ruled n core (without_image k o) (gone_sent k core1 o) []
 gone_ruled n k core core1 same rule None = rests same rule tt
@@ -519,6 +527,7 @@ gone_ruled n k core core1 same rule (Some image) =
       life = same.life;
       lines = either_lines (has_granted k image) (wave_without k.wave image.block) k.wave (begun_lines n) (without_lines k image.block ∙ same.lines) same.lines;
       me = same.me;
+      entered = either_entered (has_granted k image) (wave_without k.wave image.block) k.wave n.wave.entered same.entered same.entered;
     }) rule tt
 
 sent_rule : (k : Inst) (core : Core) (order : Order) (o : Option Shipment) → rule_of (sent_for k core order o) ≡ rule_of core
@@ -534,6 +543,7 @@ ship_ruled n k core core1 same rule (Some order) =
       lines = either_lines (order.shared || is_none (place_at k.cache order.block).current) k.wave (wave_without k.wave order.block) (begun_lines n) same.lines
           (without_lines k order.block ∙ same.lines);
       me = same.me;
+      entered = either_entered (order.shared || is_none (place_at k.cache order.block).current) k.wave (wave_without k.wave order.block) n.wave.entered same.entered same.entered;
     }) (sent_rule k core1 order (shipment k order) ∙ rule) tt
 
 copy_of_rule : (n : Inst) (core : Core) (order : CopyOrder) (o : Option BlockContent) → rule_of (copy_sent_of n core order o) ≡ rule_of core
@@ -566,7 +576,7 @@ grant_ruled : (n k : Inst) (core core1 : Core) → Keeps n k → rule_of core1 �
     → (number grant : ℕ) (mode : Mode) (it : Installed)
     → Ruled n core (granted k number grant mode true it) (granted_core k core1 number grant mode it) (image_read_tells k it)
 grant_ruled n k core core1 same rule live number grant mode (installed.Read (data_read.Image image)) =
-    rests (record { life = same.life; lines = same.lines; me = same.me }) rule tt
+    rests (record { life = same.life; lines = same.lines; me = same.me; entered = same.entered }) rule tt
 grant_ruled n k core core1 same rule live number grant mode (installed.Read data_read.Failed) = stop n k core core1 same rule live false (Some 0)
 grant_ruled n k core core1 same rule live number grant mode _ = stop n k core core1 same rule live true (Some 0)
 
@@ -574,26 +584,26 @@ bring_ruled : (n k : Inst) (core core1 : Core) → Keeps n k → rule_of core1 �
     → Ruled n core (brought k o it) (brought_core k core1 o it) (install_tells_by k o it)
 bring_ruled n k core core1 same rule live (Some (Grant number grant mode true)) it = grant_ruled n k core core1 same rule live number grant mode it
 bring_ruled n k core core1 same rule live (Some (Grant number grant mode false)) it =
-    rests (record { life = same.life; lines = same.lines; me = same.me }) rule tt
+    rests (record { life = same.life; lines = same.lines; me = same.me; entered = same.entered }) rule tt
 bring_ruled n k core core1 same rule live (Some (Shipped shipment)) it =
-    rests (record { life = same.life; lines = same.lines; me = same.me }) rule tt
+    rests (record { life = same.life; lines = same.lines; me = same.me; entered = same.entered }) rule tt
 bring_ruled n k core core1 same rule live _ it = rests same rule tt
 
 came_keeps : (n k : Inst) → Keeps n k → (o : Option Message) → Keeps n (came_by k o)
-came_keeps n k same (Some (Copy image upto)) = record { life = same.life; lines = same.lines; me = same.me }
-came_keeps n k same (Some (UndoIs image job)) = record { life = same.life; lines = same.lines; me = same.me }
+came_keeps n k same (Some (Copy image upto)) = record { life = same.life; lines = same.lines; me = same.me; entered = same.entered }
+came_keeps n k same (Some (UndoIs image job)) = record { life = same.life; lines = same.lines; me = same.me; entered = same.entered }
 came_keeps n k same _ = same
 
 hearing_keeps : (n : Inst) (epoch from : ℕ) (message : Message) → Keeps n (hearing n epoch from message)
-hearing_keeps n epoch from (Commit end) = record { life = refl; lines = refl; me = refl }
-hearing_keeps n epoch from (Heard end) = record { life = refl; lines = refl; me = refl }
+hearing_keeps n epoch from (Commit end) = record { life = refl; lines = refl; me = refl; entered = refl }
+hearing_keeps n epoch from (Heard end) = record { life = refl; lines = refl; me = refl; entered = refl }
 hearing_keeps n epoch from _ = keeps n
 
 heard_keeps : (n : Inst) (epoch from : ℕ) (o : Option Packet) → Keeps n (hearing_packet n epoch from o)
 heard_keeps n epoch from None = keeps n
 heard_keeps n epoch from (Some packet) =
     let k = record n { clock = raised n.clock packet.scn } in
-    keeps_then n k (hearing k epoch from packet.message) (record { life = refl; lines = refl; me = refl }) (hearing_keeps k epoch from packet.message)
+    keeps_then n k (hearing k epoch from packet.message) (record { life = refl; lines = refl; me = refl; entered = refl }) (hearing_keeps k epoch from packet.message)
 
 news_answer_rule : (core : Core) (me : ℕ) (scn : Scn) (from : ℕ) (message : Message) → rule_of (answering_news core me scn from message) ≡ rule_of core
 news_answer_rule core me scn from (Commit c) = refl
@@ -642,14 +652,14 @@ take_ruled : (n m : Inst) (core : Core) (from number : ℕ) → Keeps n m → (o
 take_ruled n m core from number same None e = rests same refl tt
 take_ruled n m core from number same (Some c) e =
     let at = move_found core number n.plan.me c e in
-    answers c (entry.Moved c.line) at.0 same.life (λ line h. subst (λ (ls : List ℕ). IsOf line ls) same.lines h) refl
+    answers same.entered c (entry.Moved c.line) at.0 same.life (λ line h. subst (λ (ls : List ℕ). IsOf line ls) same.lines h) refl
     (moves at.1.0 at.1.1 at.1.2 refl) refl
 
 bucket_ruled : (n k : Inst) (core : Core) (from : ℕ) (message : Message) → Keeps n k
     → Ruled n core (taking_bucket k message) (noting_bucket (without_first core from n.plan.me Main) n.plan.me message)
     (bucket_tells (without_first core from n.plan.me Main) n.plan.me message)
 bucket_ruled n k core from (Bucket number entries) same =
-    take_ruled n (taking_bucket k (Bucket number entries)) core from number (record { life = same.life; lines = same.lines; me = same.me })
+    take_ruled n (taking_bucket k (Bucket number entries)) core from number (record { life = same.life; lines = same.lines; me = same.me; entered = same.entered })
     (first_move core number n.plan.me) refl
 bucket_ruled n k core from _ same = rests same refl tt
 
@@ -658,19 +668,19 @@ packet_ruled : (n : Inst) (core : Core) (from : ℕ) (o : Option Packet)
     (packet_tells (without_first core from n.plan.me Main) n.plan.me o)
 packet_ruled n core from None = rests (keeps n) refl tt
 packet_ruled n core from (Some packet) =
-    bucket_ruled n (record n { clock = raised n.clock packet.scn }) core from packet.message (record { life = refl; lines = refl; me = refl })
+    bucket_ruled n (record n { clock = raised n.clock packet.scn }) core from packet.message (record { life = refl; lines = refl; me = refl; entered = refl })
 
 -- threads
 
 read_thread_ruled : (n : Inst) (core : Core) (thread : ℕ) (it : Found) → is_live core n.plan.me ≡ true
     → Ruled n core (thread_read n core it) (thread_read_core n core thread it) (read_tells n core thread it)
-read_thread_ruled n core thread (found.Closed scns) live = rests (record { life = refl; lines = refl; me = refl }) refl tt
+read_thread_ruled n core thread (found.Closed scns) live = rests (record { life = refl; lines = refl; me = refl; entered = refl }) refl tt
 read_thread_ruled n core thread (found.Unread bad) live = stop_here n core live bad
 read_thread_ruled n core thread (found.Stopped log bad) live =
     losing n n core (records_entered thread log.position log.read.records core) (keeps n) (records_rule thread log.position log.read.records core)
     (loss.Ended bad) (Some 0) (log_tells core thread log) (log_calm core thread log) (fails bad live refl refl)
 read_thread_ruled n core thread (found.Whole log versions) live =
-    rests (record { life = refl; lines = refl; me = refl }) (records_rule thread log.position log.read.records core) (log_calm core thread log)
+    rests (record { life = refl; lines = refl; me = refl; entered = refl }) (records_rule thread log.position log.read.records core) (log_calm core thread log)
 
 close_ruled : (n : Inst) (core : Core) (thread : ℕ) (it : Closing) → is_live core n.plan.me ≡ true
     → Ruled n core (thread_closed n it) (closed_core_as n core thread (closed_entry (read_of n thread)) it) (close_tells n it)
@@ -691,7 +701,7 @@ crash_as n core c Nothing is due = crash_to n core c (Some n.thread.durable) is 
 crash_as n core c (Bytes Whole) is due = crash_to n core c (Some (kept_to n c)) is due
 crash_as n core c (Bytes (Cut kept)) is due =
     let it = lost_rule n (answering core c.line) (loss.Ended false) kept in
-    loses (entry.Ended n.plan.me false) (fold (with_refusal n) [] n.plan.mine) (kept_tells n kept) refl (lost_lines n)
+    loses refl (entry.Ended n.plan.me false) (fold (with_refusal n) [] n.plan.mine) (kept_tells n kept) refl (lost_lines n)
     (cuts c false is due (ap (λ (r : Rule). r.controls) it) refl)
     (ap (λ (r : Rule). r.wave) it ∙ start_wave n.life (rule_of (answering core c.line)))
     (ap (λ (r : Rule). without_inst r.live n.plan.me) it ∙ ap (λ (l : InstSet). without_inst l n.plan.me) (start_live n.life (rule_of (answering core c.line))))
@@ -727,7 +737,7 @@ crash_ruled n core number (Some c) it e due =
 
 moved_keeps : (n : Inst) (o : Option BucketMove) → Keeps n (with_moved n o)
 moved_keeps n None = keeps n
-moved_keeps n (Some it) = record { life = refl; lines = refl; me = refl }
+moved_keeps n (Some it) = record { life = refl; lines = refl; me = refl; entered = refl }
 
 entries_rule : (n : Inst) (core : Core) (it : BucketMove) (o : Option (List DirEntry)) → rule_of (sending_bucket core n.plan.me n.clock.scn it o) ≡ rule_of core
 entries_rule n core it None = refl
@@ -752,14 +762,14 @@ keep_ruled : (n : Inst) (core : Core) (number : ℕ) (o : Option Control) → op
 keep_ruled n core number None e may = rests (keeps n) refl tt
 keep_ruled n core number (Some c) e may =
     let it = is_move c.wanted may in
-    answers c (entry.Moved c.line) (opened_by core number c e).0 refl (λ line h. h) refl (moves it.0 it.1 it.2 refl) refl
+    answers refl c (entry.Moved c.line) (opened_by core number c e).0 refl (λ line h. h) refl (moves it.0 it.1 it.2 refl) refl
 
 skip_ruled : (n : Inst) (core : Core) (number : ℕ) (o : Option Control) → open_control core number ≡ o → is_idle_line n core o ≡ true
     → Ruled n core n (skipped_line core o) (skip_tells o)
 skip_ruled n core number None e may = rests (keeps n) refl tt
 skip_ruled n core number (Some c) e may =
     let b = and_parts (maker c.wanted == n.plan.me) (finds_nothing n core c.line c.wanted) may in
-    answers c (entry.NotDone c.line) (opened_by core number c e).0 refl (λ line h. h) refl
+    answers refl c (entry.NotDone c.line) (opened_by core number c e).0 refl (λ line h. h) refl
     (skips (eqb-true (maker c.wanted) n.plan.me b.0) b.1 refl) refl
 
 of_filtered : (p : Begun → Bool) (xs : List Begun) (number : ℕ) → IsOf number (map (λ (begun : Begun). begun.line) (filter p xs))
@@ -790,7 +800,7 @@ check_ruled : (n : Inst) (core : Core) (number : ℕ) (it : Written) → is_live
 check_ruled n core number written.Done live None e may of = absurd (let no : false ≡ true = may in cc)
 check_ruled n core number written.Done live (Some c) e may of =
     let is = opened_by core number c e in
-    answers c (entry.Checkpointed number) is.0 refl
+    answers refl c (entry.Checkpointed number) is.0 refl
     (λ line h. of_filtered (λ (begun : Begun). not (begun.line == number)) n.wave.checkpoints line h)
     (ap (λ (line : ℕ). closed (rule_of core) line) (sym is.1))
     (checks (subst (λ (line : ℕ). IsOf line (begun_lines n)) (sym is.1) of) (ap entry.Checkpointed (sym is.1))) refl
@@ -799,12 +809,12 @@ check_ruled n core number written.Failed live o e may of = stop_here n core live
 -- an instance comes in
 
 join_fails : (n k : Inst) (core core1 : Core) (c : Control) → k.life ≡ Joining c.line → begun_lines k ≡ begun_lines n → k.plan.me ≡ n.plan.me
-    → rule_of core1 ≡ rule_of core → IsOpen core c → c.wanted ≡ Start n.plan.me → is_live core n.plan.me ≡ false → (bad : Bool)
+    → k.wave.entered ≡ n.wave.entered → rule_of core1 ≡ rule_of core → IsOpen core c → c.wanted ≡ Start n.plan.me → is_live core n.plan.me ≡ false → (bad : Bool)
     → Ruled n core (lost k) (lost_core k core1 (loss.Ended bad) (Some 0)) (stop_tells k bad)
-join_fails n k core core1 c life lines me rule is start live bad =
+join_fails n k core core1 c life lines me entered_ rule is start live bad =
     let it : rule_of (loss_told k (kept_told k core1 (Some 0)) (loss.Ended bad)) ≡ closed (rule_of core) c.line =
     lost_rule k core1 (loss.Ended bad) (Some 0) ∙ ap (λ (l : Life). start_closed l (rule_of core1)) life ∙ ap (λ (r : Rule). closed r c.line) rule in
-    loses (loss_entry k (loss.Ended bad)) (fold (with_refusal k) [] k.plan.mine) (kept_tells k (Some 0)) refl (lost_lines k ∙ lines)
+    loses entered_ (loss_entry k (loss.Ended bad)) (fold (with_refusal k) [] k.plan.mine) (kept_tells k (Some 0)) refl (lost_lines k ∙ lines)
     (stays_out c bad is start live (ap (λ (r : Rule). r.controls) it) (ap (λ (i : ℕ). entry.Ended i bad) me))
     (ap (λ (r : Rule). r.wave) it) (ap (λ (r : Rule). without_inst r.live k.plan.me) it ∙ ap (λ (i : ℕ). without_inst core.members.live i) me)
     (refusals_calm k) (kept_calm k (Some 0)) refl
@@ -813,18 +823,18 @@ join_read : (n : Inst) (core : Core) (c : Control) (own : SegmentState) (scns : 
     → is_live core n.plan.me ≡ false → Ruled n core (read_in (joining n c.line) own scns it) (if is_open it then entered_core (opened_core core n.plan.me it) n.plan.me
     else stop_core (with_segment (joining n c.line) own scns it) (opened_core core n.plan.me it) false)
     (if is_open it then [] else stop_tells (with_segment (joining n c.line) own scns it) false)
-join_read n core c own scns (thread.Running length) is start live = comes c is start live refl refl refl refl refl
+join_read n core c own scns (thread.Running length) is start live = comes refl c is start live refl refl refl refl refl
 join_read n core c own scns (thread.Unwritten length) is start live =
-    join_fails n (with_segment (joining n c.line) own scns (thread.Unwritten length)) core (opened_core core n.plan.me (thread.Unwritten length)) c refl refl refl refl is start live false
+    join_fails n (with_segment (joining n c.line) own scns (thread.Unwritten length)) core (opened_core core n.plan.me (thread.Unwritten length)) c refl refl refl refl refl is start live false
 join_read n core c own scns thread.Untold is start live =
-    join_fails n (with_segment (joining n c.line) own scns thread.Untold) core core c refl refl refl refl is start live false
+    join_fails n (with_segment (joining n c.line) own scns thread.Untold) core core c refl refl refl refl refl is start live false
 
 join_as : (n : Inst) (core : Core) (c : Control) (it : Joined) → IsOpen core c → c.wanted ≡ Start n.plan.me → is_live core n.plan.me ≡ false
     → Ruled n core (came_in (joining n c.line) core it) (came_in_core (joining n c.line) core it) (join_tells (joining n c.line) core it)
-join_as n core c joined.Dark is start live = comes c is start live refl refl refl refl refl
+join_as n core c joined.Dark is start live = comes refl c is start live refl refl refl refl refl
 join_as n core c (joined.Read own it) is start live = join_read n core c own.value (scns_of (joining n c.line) core) it is start live
-join_as n core c joined.Bad is start live = join_fails n (joining n c.line) core core c refl refl refl refl is start live true
-join_as n core c joined.Unread is start live = join_fails n (joining n c.line) core core c refl refl refl refl is start live false
+join_as n core c joined.Bad is start live = join_fails n (joining n c.line) core core c refl refl refl refl refl is start live true
+join_as n core c joined.Unread is start live = join_fails n (joining n c.line) core core c refl refl refl refl refl is start live false
 
 is_start : (me : ℕ) (wanted : Wanted) → is_start_of me wanted ≡ true → wanted ≡ Start me
 is_start me (Start i) e = ap Start (eqb-true i me e)
@@ -847,12 +857,12 @@ join_by n core number _ asks live = rests (keeps n) refl tt
 
 force_ruled : (n : Inst) (core : Core) (it : Appended) → is_live core n.plan.me ≡ true → Ruled n core (forced_as n it) (force_told n core it) (force_tells n it)
 force_ruled n core Whole live =
-    rests (record { life = refl; lines = refl; me = refl }) refl
+    rests (record { life = refl; lines = refl; me = refl; entered = refl }) refl
     (fold_calm (commit_told n.plan.me) (λ es end q. calm_if end.commit (entry.Committed end.xid end.scn n.plan.me) es refl q) n.ends [] tt)
 force_ruled n core (Cut kept) live = stop n n core core (keeps n) refl live false kept
 
 opened_keeps : (n : Inst) (scns : Clock) (it : Opened) → Keeps n (opened n scns it)
-opened_keeps n scns (thread.Running length) = record { life = refl; lines = refl; me = refl }
+opened_keeps n scns (thread.Running length) = record { life = refl; lines = refl; me = refl; entered = refl }
 opened_keeps n scns _ = keeps n
 
 opened_if_keeps : (n : Inst) (scns : Clock) (o : Option Opened) → Keeps n (opened_if n scns o)
@@ -873,7 +883,7 @@ dealt_rule core me bound = refl
 
 led_keeps : (n : Inst) (core : Core) (owns : List SegmentState) → Keeps n (led n core owns)
 unfolding led
-led_keeps n core owns = record { life = refl; lines = refl; me = refl }
+led_keeps n core owns = record { life = refl; lines = refl; me = refl; entered = refl }
 
 thaw_ruled : (n : Inst) (core : Core) (it : Thawed) → is_live core n.plan.me ≡ true → Ruled n core (thaw n core it) (thawed_core n core it) (thaw_tells n core it)
 thaw_ruled n core (thawed.Done opening owns) live =
@@ -881,7 +891,7 @@ thaw_ruled n core (thawed.Done opening owns) live =
     let core1 = opened_shared n core opening in
     let led_ = led_keeps k (thaw_core k core1) owns.value.items in
     let same = keeps_then n k (led k (thaw_core k core1) owns.value.items) (opened_if_keeps n (scns_of n core) opening) led_ in
-    rests (record { life = same.life; lines = same.lines; me = same.me })
+    rests (record { life = same.life; lines = same.lines; me = same.me; entered = same.entered })
     (dealt_rule core1 k.plan.me (bound_of k core1) ∙ opened_if_rule core n.plan.me opening) tt
 thaw_ruled n core (thawed.Unopened opening) live =
     stop n (opened_part n core opening) core (opened_shared n core opening) (opened_if_keeps n (scns_of n core) opening) (opened_if_rule core n.plan.me opening) live false (Some 0)
@@ -895,15 +905,15 @@ thaw_by n core (how.Thawed it) live = thaw_ruled n core it live
 thaw_by n core _ live = rests (keeps n) refl tt
 
 resume_ruled : (n m : Inst) (core now : Core) (es : List Entry) (life : Life) → n.life ≡ life → m.life ≡ up_by life → begun_lines m ≡ begun_lines n
-    → m.plan.me ≡ n.plan.me → now.waves ≡ start_joined life core.waves → now.members.live ≡ core.members.live → es ≡ up_told n.plan.me life []
+    → m.plan.me ≡ n.plan.me → m.wave.entered ≡ n.wave.entered → now.waves ≡ start_joined life core.waves → now.members.live ≡ core.members.live → es ≡ up_told n.plan.me life []
     → Ruled n core m now es
-resume_ruled n m core now es (Joining number) was is lines me waves live told =
-    rises number was is lines (λ i. record { controls = (waves i).controls; wave = (waves i).wave; live = live i }) told
-resume_ruled n m core now es Up was is lines me waves live told =
-    rests (record { life = is ∙ sym was; lines = lines; me = me }) (λ i. record { controls = (waves i).controls; wave = (waves i).wave; live = live i })
+resume_ruled n m core now es (Joining number) was is lines me entered_ waves live told =
+    rises entered_ number was is lines (λ i. record { controls = (waves i).controls; wave = (waves i).wave; live = live i }) told
+resume_ruled n m core now es Up was is lines me entered_ waves live told =
+    rests (record { life = is ∙ sym was; lines = lines; me = me; entered = entered_ }) (λ i. record { controls = (waves i).controls; wave = (waves i).wave; live = live i })
     (subst (λ (l : List Entry). Calms l) (sym told) tt)
-resume_ruled n m core now es Down was is lines me waves live told =
-    rests (record { life = is ∙ sym was; lines = lines; me = me }) (λ i. record { controls = (waves i).controls; wave = (waves i).wave; live = live i })
+resume_ruled n m core now es Down was is lines me entered_ waves live told =
+    rests (record { life = is ∙ sym was; lines = lines; me = me; entered = entered_ }) (λ i. record { controls = (waves i).controls; wave = (waves i).wave; live = live i })
     (subst (λ (l : List Entry). Calms l) (sym told) tt)
 
 -- What a kind of step needs of the instance and of the shared part, where it tells of a control line or may end its instance.
@@ -928,8 +938,8 @@ Allows n core _ = Unit {0}
 session_ruled : (n : Inst) (core : Core) (kind : SessionStep) (z : ℕ) (it : How) → Allows n core (Session kind z)
     → Ruled n core (session_part n core kind z it) (session_core n core kind z it) (session_tells n core kind z it)
 unfolding session_part session_core session_tells
-session_ruled n core session.StartStmt z it may = rests (record { life = refl; lines = refl; me = refl }) refl (refl, tt)
-session_ruled n core session.Visit z it may = rests (record { life = refl; lines = refl; me = refl }) refl (rows_calm (stmt_at n z) (read_made n z) n z)
+session_ruled n core session.StartStmt z it may = rests (record { life = refl; lines = refl; me = refl; entered = refl }) refl (refl, tt)
+session_ruled n core session.Visit z it may = rests (record { life = refl; lines = refl; me = refl; entered = refl }) refl (rows_calm (stmt_at n z) (read_made n z) n z)
 session_ruled n core session.Change z it may = change_ruled n core z (change_decided n z)
 session_ruled n core session.Mark z it may = mark_ruled n core z (end_decided n z)
 session_ruled n core session.StepBack z it may = back_ruled n core z ((session_at n z).standing - 1) (record_of (back_decided n z))
@@ -949,10 +959,10 @@ block_ruled : (n : Inst) (core : Core) (kind : BlockStep) (number : ℕ) (it : H
 unfolding block_part block_core block_tells
 block_ruled n core block.Ask number it may = ask_block_ruled n core number (lacked n number)
 block_ruled n core block.Evict number it may =
-    rests (record { life = refl; lines = without_lines n number; me = refl }) (gave_rule n core number (clean_grant (place_at n.cache number).current)) tt
+    rests (record { life = refl; lines = without_lines n number; me = refl; entered = refl }) (gave_rule n core number (clean_grant (place_at n.cache number).current)) tt
 block_ruled n core block.WriteBlock number it may = write_ruled n core number (written_of it) may
 block_ruled n core block.AskWrite number it may =
-    rests (record { life = refl; lines = refl; me = refl }) (plea_rule n core number (past_version n number)) tt
+    rests (record { life = refl; lines = refl; me = refl; entered = refl }) (plea_rule n core number (past_version n number)) tt
 block_ruled n core block.GivePast number it may = rests (keeps n) refl tt
 block_ruled n core block.RecoverBlock number it may = recover_by n core number it may
 
@@ -960,23 +970,23 @@ inst_ruled : (n : Inst) (core : Core) (kind : InstStep) (from : ℕ) (it : How) 
     → Ruled n core (inst_part n core kind from it) (inst_core n core kind from it) (inst_tells n core kind from it)
 unfolding inst_part inst_core inst_tells
 inst_ruled n core inst.MasterTake from it may =
-    rests (record { life = refl; lines = refl; me = refl }) (master_rule (hears n core from Main) (heard n core from Main) (first_message n core from Main)) tt
+    rests (record { life = refl; lines = refl; me = refl; entered = refl }) (master_rule (hears n core from Main) (heard n core from Main) (first_message n core from Main)) tt
 inst_ruled n core inst.Invalidate from it may =
-    gone_ruled n (hears n core from Main) core (heard n core from Main) (record { life = refl; lines = refl; me = refl }) refl (first_to_go n core from)
+    gone_ruled n (hears n core from Main) core (heard n core from Main) (record { life = refl; lines = refl; me = refl; entered = refl }) refl (first_to_go n core from)
 inst_ruled n core inst.Ship from it may =
-    ship_ruled n (hears n core from Main) core (heard n core from Main) (record { life = refl; lines = refl; me = refl }) refl (first_order n core from)
+    ship_ruled n (hears n core from Main) core (heard n core from Main) (record { life = refl; lines = refl; me = refl; entered = refl }) refl (first_order n core from)
 inst_ruled n core inst.ServeCopy from it may =
-    rests (record { life = refl; lines = refl; me = refl }) (copy_rule (hears n core from Main) (heard n core from Main) (first_copy_order n core from)) tt
+    rests (record { life = refl; lines = refl; me = refl; entered = refl }) (copy_rule (hears n core from Main) (heard n core from Main) (first_copy_order n core from)) tt
 inst_ruled n core inst.DropPast from it may =
-    rests (record { life = refl; lines = refl; me = refl }) (past_rule (hears n core from Main) (heard n core from Main) (first_past_order n core from)) tt
+    rests (record { life = refl; lines = refl; me = refl; entered = refl }) (past_rule (hears n core from Main) (heard n core from Main) (first_past_order n core from)) tt
 inst_ruled n core inst.Install from it may =
-    bring_ruled n (hears n core from Main) core (heard n core from Main) (record { life = refl; lines = refl; me = refl }) refl may (first_message n core from Main) (installed_of it)
+    bring_ruled n (hears n core from Main) core (heard n core from Main) (record { life = refl; lines = refl; me = refl; entered = refl }) refl may (first_message n core from Main) (installed_of it)
 inst_ruled n core inst.TakeCopy from it may =
-    rests (came_keeps n (hears n core from Main) (record { life = refl; lines = refl; me = refl }) (first_message n core from Main)) refl tt
+    rests (came_keeps n (hears n core from Main) (record { life = refl; lines = refl; me = refl; entered = refl }) (first_message n core from Main)) refl tt
 inst_ruled n core inst.TakeUndo from it may =
-    rests (came_keeps n (hears n core from UndoLane) (record { life = refl; lines = refl; me = refl }) (first_message n core from UndoLane)) refl tt
+    rests (came_keeps n (hears n core from UndoLane) (record { life = refl; lines = refl; me = refl; entered = refl }) (first_message n core from UndoLane)) refl tt
 inst_ruled n core inst.ServeUndo from it may =
-    rests (record { life = refl; lines = refl; me = refl })
+    rests (record { life = refl; lines = refl; me = refl; entered = refl })
     (undo_rule (hears n core from UndoLane) (heard n core from UndoLane) from (first_undo_order n core from)) tt
 inst_ruled n core inst.Heard from it may =
     rests (heard_keeps n core.members.epoch from (first_from core from n.plan.me Main))
@@ -1002,14 +1012,14 @@ recovery_calm false e is = (is, tt)
 plain_ruled : (n : Inst) (core : Core) (kind : PlainStep) (it : How) → Allows n core (Plain kind)
     → Ruled n core (plain_part n core kind it) (plain_core n core kind it) (plain_tells n core kind it)
 unfolding plain_part plain_core plain_tells
-plain_ruled n core plain.Enter it may = enters refl refl refl (openings_calm n.plan.me core.waves.wave n.plan.openings [] tt)
+plain_ruled n core plain.Enter it may = enters refl refl refl refl (openings_calm n.plan.me core.waves.wave n.plan.openings [] tt)
 plain_ruled n core plain.Force it may = force_ruled n core (forced_of it) may
-plain_ruled n core plain.Report it may = rests (record { life = refl; lines = refl; me = refl }) refl tt
+plain_ruled n core plain.Report it may = rests (record { life = refl; lines = refl; me = refl; entered = refl }) refl tt
 plain_ruled n core plain.Thaw it may = thaw_by n core it may
 plain_ruled n core plain.Reopen it may =
-    rests (record { life = refl; lines = refl; me = refl }) refl
+    rests (record { life = refl; lines = refl; me = refl; entered = refl }) refl
     (recovery_calm (is_empty core.recovery.closed_since) (entry.Recovered (bits_of core.recovery.closed_since)) refl)
-plain_ruled n core plain.Resume it may = resume_ruled n (resumed n core) core (resumed_core n core) (up_told n.plan.me n.life []) n.life refl refl refl refl refl refl refl
+plain_ruled n core plain.Resume it may = resume_ruled n (resumed n core) core (resumed_core n core) (up_told n.plan.me n.life []) n.life refl refl refl refl refl refl refl refl
 plain_ruled n core plain.Leave it may = rests (keeps n) refl tt
 plain_ruled n core plain.Wave it may = turns (keeps n) may refl refl refl
 
@@ -1030,7 +1040,7 @@ prepared_keeps n core action = by (comes_after_thaw (kind_class action)) (is_tha
     by : (after thawed : Bool) → Keeps n (prepared_if after thawed n core)
     by false thawed = keeps n
     by true false = keeps n
-    by true true = record { life = refl; lines = refl; me = refl }
+    by true true = record { life = refl; lines = refl; me = refl; entered = refl }
 
 ready_live : (n : Inst) (core : Core) (action : Action) → is_live core n.plan.me ≡ true
     → is_live (counted core n.plan.me action) (prepared n core action).plan.me ≡ true

@@ -126,17 +126,17 @@ first_commands script w fit first = record {
 next_of : (script : ScriptParts) (n m : Inst) (core now : Core) (past es : List Entry) (i : ℕ) → IsWellFormed script → core.waves.count ≡ length script.waves → m.plan.me ≡ i → Ruled n core m now es
     → Holds script (rule_of core) past → IsRuled script (rule_of core) past i n → Next script (rule_of core) (rule_of now) past es i m
 next_of script n m core now past es i fit count mine (rests same rule q) h own = next_rests script (rule_of core) (rule_of now) past es i n m same rule q h own
-next_of script n m core now past es i fit count mine (enters life begins rule q) h own =
+next_of script n m core now past es i fit count mine (enters entered_ life begins rule q) h own =
     next_enters script n m core (rule_of now) past es i fit life (mine ∙ sym own.me) begins rule q h own
-next_of script n m core now past es i fit count mine (comes c is start live life lines waves lives none) h own =
+next_of script n m core now past es i fit count mine (comes entered_ c is start live life lines waves lives none) h own =
     subst (λ (l : List Entry). Next script (rule_of core) (rule_of now) past l i m) (sym none)
     (next_comes script n m core (rule_of now) past i c is start live life lines (mine ∙ sym own.me)
     (λ t. record { controls = (waves t).controls; wave = (waves t).wave; live = lives t }) h own)
-next_of script n m core now past es i fit count mine (rises line was life lines rule told) h own =
+next_of script n m core now past es i fit count mine (rises entered_ line was life lines rule told) h own =
     next_rises script (rule_of core) (rule_of now) past es i n m line fit was life lines mine rule told h own
-next_of script n m core now past es i fit count mine (answers c e is life lines rule how_ told) h own =
+next_of script n m core now past es i fit count mine (answers entered_ c e is life lines rule how_ told) h own =
     next_answers script n m core (rule_of now) past es i c e fit is life lines mine rule how_ told h own
-next_of script n m core now past es i fit count mine (loses e later first life lines how_ wave live q1 q2 told) h own =
+next_of script n m core now past es i fit count mine (loses entered_ e later first life lines how_ wave live q1 q2 told) h own =
     next_loses script n m core (rule_of now) past es later first e i fit life lines mine how_ wave live q1 q2 told h own
 next_of script n m core now past es i fit count mine (turns same all waves live none) h own =
     next_turns script n m core (rule_of now) past es i fit count same all (λ t. record { controls = (waves t).controls; wave = (waves t).wave; live = live t }) none h own

@@ -207,10 +207,10 @@ joining_up y me line before d start false is up = inl up
 pub effect_of : (script : ScriptParts) (n m : Inst) (core now : Core) (past es : List Entry) (i : ℕ) → IsWellFormed script → Ruled n core m now es
     → Holds script (rule_of core) past → IsRuled script (rule_of core) past i n → Effect script (rule_of core) (rule_of now) past es i
 effect_of script n m core now past es i fit (rests same rule q) h own = leaves (ap (λ (r : Rule). r.controls) rule) (ap (λ (r : Rule). r.wave) rule) q
-effect_of script n m core now past es i fit (enters life begins rule q) h own = leaves (ap (λ (r : Rule). r.controls) rule) (ap (λ (r : Rule). r.wave) rule) q
-effect_of script n m core now past es i fit (comes c is start live life lines waves lives none) h own =
+effect_of script n m core now past es i fit (enters entered_ life begins rule q) h own = leaves (ap (λ (r : Rule). r.controls) rule) (ap (λ (r : Rule). r.wave) rule) q
+effect_of script n m core now past es i fit (comes entered_ c is start live life lines waves lives none) h own =
     leaves (λ t. (waves t).controls) (λ t. (waves t).wave) (subst (λ (l : List Entry). Calms l) (sym none) tt)
-effect_of script n m core now past es i fit (rises line was life lines rule told) h own =
+effect_of script n m core now past es i fit (rises entered_ line was life lines rule told) h own =
     let j = own.joining line was in
     let a = item_of script core.waves.controls (core.waves.wave - 1) j.by fit h.shape j.here in
     let it : a.it ≡ item.Start i = wants_start a.it i (item_wants script (core.waves.wave - 1) j.by a ∙ ap Some j.wanted) in
@@ -221,7 +221,7 @@ effect_of script n m core now past es i fit (rises line was life lines rule told
       up = λ y before up. joining_up y i j.by.line before j.by j.wanted (y == i) refl up;
     }) (ap (λ (r : Rule). r.controls) rule ∙ ap (λ (k : ℕ). (closed (rule_of core) k).controls) (sym j.number)) (ap (λ (r : Rule). r.wave) rule) tt tt
     (told ∙ (λ t. entry.Up (sym j.number t) (own.me t) ∷ []))
-effect_of script n m core now past es i fit (answers c e is life lines rule how_ told) h own =
+effect_of script n m core now past es i fit (answers entered_ c e is life lines rule how_ told) h own =
     let a = item_of script core.waves.controls (core.waves.wave - 1) c fit h.shape is.here in
     let t = told_by script n core past i c e a own how_ in
     tells c e [] [] (record { here = is.here; open_ = is.open_ }) (record {
@@ -229,7 +229,7 @@ effect_of script n m core now past es i fit (answers c e is life lines rule how_
       asked = t.asked;
       up = λ y before up. inl (sym (t.up y before) ∙ up);
     }) (ap (λ (r : Rule). r.controls) rule) (ap (λ (r : Rule). r.wave) rule) tt tt told
-effect_of script n m core now past es i fit (loses e later first life lines how_ wave live q1 q2 told) h own =
+effect_of script n m core now past es i fit (loses entered_ e later first life lines how_ wave live q1 q2 told) h own =
     effect_loses script n core (rule_of now) past es later first e i fit wave how_ q1 q2 told h own
 effect_of script n m core now past es i fit (turns same all waves live none) h own =
     moves_on (λ c here. all_done (wave_controls core.waves) c all here) (λ t. (waves t).controls)

@@ -57,12 +57,13 @@ pub record Keeps (n m : Inst) : Type 0 where
   pub life : m.life ≡ n.life
   pub lines : begun_lines m ≡ begun_lines n
   pub me : m.plan.me ≡ n.plan.me
+  pub entered : m.wave.entered ≡ n.wave.entered
 
 pub keeps : (n : Inst) → Keeps n n
-keeps n = record { life = refl; lines = refl; me = refl }
+keeps n = record { life = refl; lines = refl; me = refl; entered = refl }
 
 pub keeps_then : (a b c : Inst) → Keeps a b → Keeps b c → Keeps a c
-keeps_then a b c first later = record { life = later.life ∙ first.life; lines = later.lines ∙ first.lines; me = later.me ∙ first.me }
+keeps_then a b c first later = record { life = later.life ∙ first.life; lines = later.lines ∙ first.lines; me = later.me ∙ first.me; entered = later.entered ∙ first.entered }
 
 -- A control line is among these.
 abbrev pub IsIn : Control → List Control → Type 0
@@ -113,16 +114,16 @@ pub data Loses (n : Inst) (core : Core) (controls : List (List Control)) (e : En
 -- lets the next wave rise.
 pub data Ruled (n : Inst) (core : Core) (m : Inst) (now : Core) (es : List Entry) : Type 0 where
   rests : Keeps n m → rule_of now ≡ rule_of core → Calms es → Ruled n core m now es
-  enters : m.life ≡ n.life → m.wave.checkpoints ≡ begun_in n (wave_controls core.waves) → rule_of now ≡ rule_of core → Calms es
+  enters : m.wave.entered ≡ core.waves.wave → m.life ≡ n.life → m.wave.checkpoints ≡ begun_in n (wave_controls core.waves) → rule_of now ≡ rule_of core → Calms es
       → Ruled n core m now es
-  comes : (c : Control) → IsOpen core c → c.wanted ≡ Start n.plan.me → is_live core n.plan.me ≡ false → m.life ≡ Joining c.line
+  comes : m.wave.entered ≡ n.wave.entered → (c : Control) → IsOpen core c → c.wanted ≡ Start n.plan.me → is_live core n.plan.me ≡ false → m.life ≡ Joining c.line
       → begun_lines m ≡ begun_lines n → now.waves ≡ core.waves → now.members.live ≡ with_inst core.members.live n.plan.me
       → es ≡ [] → Ruled n core m now es
-  rises : (line : ℕ) → n.life ≡ Joining line → m.life ≡ Up → begun_lines m ≡ begun_lines n
+  rises : m.wave.entered ≡ n.wave.entered → (line : ℕ) → n.life ≡ Joining line → m.life ≡ Up → begun_lines m ≡ begun_lines n
       → rule_of now ≡ closed (rule_of core) line → es ≡ IsUp line n.plan.me ∷ [] → Ruled n core m now es
-  answers : (c : Control) (e : Entry) → IsOpen core c → m.life ≡ n.life → ((line : ℕ) → IsOf line (begun_lines m) → IsOf line (begun_lines n))
+  answers : m.wave.entered ≡ n.wave.entered → (c : Control) (e : Entry) → IsOpen core c → m.life ≡ n.life → ((line : ℕ) → IsOf line (begun_lines m) → IsOf line (begun_lines n))
       → rule_of now ≡ closed (rule_of core) c.line → Answers n core c e → es ≡ e ∷ [] → Ruled n core m now es
-  loses : (e : Entry) (later first : List Entry) → m.life ≡ Down → begun_lines m ≡ begun_lines n → Loses n core now.waves.controls e
+  loses : m.wave.entered ≡ n.wave.entered → (e : Entry) (later first : List Entry) → m.life ≡ Down → begun_lines m ≡ begun_lines n → Loses n core now.waves.controls e
       → now.waves.wave ≡ core.waves.wave → now.members.live ≡ without_inst core.members.live n.plan.me → Calms later → Calms first
       → es ≡ later ++ e ∷ first → Ruled n core m now es
   turns : Keeps n m → are_answered core ≡ true → now.waves ≡ next_wave core.waves → now.members.live ≡ core.members.live → es ≡ [] → Ruled n core m now es

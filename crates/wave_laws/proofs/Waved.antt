@@ -307,6 +307,23 @@ effect_tells script ever rule now past es i fit (moves_on all same wave none) h 
       down = λ y j le ended. absurd (let p : j + 1 ≡ rule.wave = (t.down y j (omega (arith, le, is)) ended).0 in omega (arith, p, le, is));
     }
 
+-- what fits the journal after a step fits it before
+pub effect_fits : (script : ScriptParts) (ever : ℕ → Bool) (rule now : Rule) (past es : Past) (i : ℕ) → IsWellFormed script → Effect script rule now past es i
+    → Holds script rule past → Fits ever now.controls (es ++ past) → Fits ever rule.controls past
+effect_fits script ever rule now past es i fit (leaves same wave q) h fits = fits_same script ever rule now past es same q fits
+effect_fits script ever rule now past es i fit (tells d e later first is names closes wave q1 q2 told) h fits =
+    fits_closed script ever rule now past es later first d e closes q1 q2 told
+    (λ j c here done. ap (λ (o : Option ℕ). option_map_or (λ n. n == c.line) o false) names.names
+    ∙ ne_eqb d.line c.line (λ same. other_line script rule past d j c fit h is here done (sym same))) fits
+effect_fits script ever rule now past es i fit (ends_up bad later first up same wave q1 q2 told) h fits =
+    fits_end script ever rule now past es later first i bad same q1 q2 told fits
+effect_fits script ever rule now past es i fit (ends_start d bad later first is start down closes wave q1 q2 told) h fits =
+    fits_closed script ever rule now past es later first d (entry.Ended i bad) closes q1 q2 told (λ j c here done. refl) fits
+effect_fits script ever rule now past es i fit (ends_crash d when keep bad later first is crash up closes wave q1 q2 told) h fits =
+    fits_closed script ever rule now past es later first d (entry.Ended i bad) closes q1 q2 told (λ j c here done. refl) fits
+effect_fits script ever rule now past es i fit (moves_on all same wave none) h fits =
+    fits_same script ever rule now past es same (subst (λ (l : Past). Calms l) (sym none) tt) fits
+
 -- What holds in each world: of the control lines, and of what the journal tells, whatever is told later.
 pub record Waved (script : ScriptParts) (w : World) : Type 0 where
   pub commands : Commands script w
