@@ -1,45 +1,37 @@
 -- A block as others act.
-use Rattle.std.proofs.Common.{◌≡◌, ◌≢◌, ◌∙◌, ℕ, ◌<◌, ◌≤◌, ◌+◌, Bool, true, false, cond, List, [], ◌∷◌, ◌++◌, length, refl, sym, ap, subst, arith}
-use Rattle.std.specs.Prelude.{map, max, option_to_list, drop, Option, Some, None}
-use Rattle.std.proofs.lemmas.Bool.{eq-eqb, ne_eqb}
+use Rattle.std.proofs.Common.{◌≡◌, ◌≢◌, ◌∙◌, ℕ, ◌+◌, Bool, true, false, List, [], ◌∷◌, ◌++◌, length, refl, sym, ap, subst}
+use Rattle.std.specs.Prelude.{max, drop, Some}
 use Rattle.std.proofs.lemmas.List.{length-set}
-use Rattle.base_types.specs.declared.names.BlockNo.{BlockNo}
-use Rattle.redo_types.specs.declared.blocks.RowChange.{RowChange}
 use Rattle.wire_net.specs.declared.message.Message.{Message}
 use Rattle.wire_net.specs.declared.message.Lane.TheVariants.{Main}
 use Rattle.wire_net.specs.declared.message.Mode.{Mode as HoldMode}
 use Rattle.wire_net.specs.declared.message.Mode.TheVariants as modes
 use Rattle.wire_net.specs.declared.message.Packet.{Packet}
-use Rattle.wire_net.specs.declared.entry.Entry.{Entry}
 use Rattle.wire_net.specs.Links.{place_of, taken, waiting_on}
 use Rattle.resource_dir.specs.Takes.{takes}
-use Rattle.buffer_cache.specs.declared.place.Current.{Current}
 use Rattle.buffer_cache.specs.Place.{with_change}
-use Rattle.block_protocol.specs.Block.{Asks, At, BackCopy, Block, Clears, CopyTo, Exclusive, Grant, Grants, Hold, Inst, Operation, Quiet, Read, Request, Waits, Want, place_clock, put}
-use Rattle.block_protocol.specs.Sound.{Sound}
+use Rattle.block_protocol.specs.Block.{Asks, BackCopy, Block, CopyTo, Exclusive, Grant, Grants, Hold, Inst, Operation, Quiet, Read, Request, Waits, Want, place_clock, put}
 use Rattle.block_protocol.specs.Steps.{ServesNot, is_none, Step, asked_on, clock_there, forced, wanted_again, arrives, asks, asks_copy_again, asks_ship_again, asks_to_write, begins_to_clear, changes, copy_comes_back, drops_copy, drops_past, drops_stale, ends, ends_before_done, evicts, forces, forwards_note, forwards_request, forwards_ship, gives, gives_shared, hears_back_write, hears_gave_up, hears_gone, hears_plea, hears_written, installs_from_disk, installs_held, installs_shipped, invalidates, lets_drop, orders, passes_plea, pleads, raises, sends_copy, sends_entry, serves_copy, ship_comes_back, ships, steps_back, takes_copy, takes_entry, takes_wish, tells_written, uses, uses_copy, was_gone, write_comes_back, writes}
-use Rattle.block_protocol.specs.Wire.{Wire, flights, gather, of_waiting, Same}
-use Rattle.block_protocol.proofs.Basics.{put-elim, put-other, put-same}
+use Rattle.block_protocol.specs.Wire.{Wire, flights, Same}
+use Rattle.block_protocol.proofs.Basics.{put-elim, put-other}
 use Rattle.block_protocol.proofs.Directory.{Sound-step}
-use Rattle.protocol_ties.specs.AmongAll.{is_block, wires_about}
-use Rattle.protocol_ties.specs.Bags.{AreLinks, bag_of}
+use Rattle.protocol_ties.specs.AmongAll.{wires_about}
+use Rattle.protocol_ties.specs.Bags.{bag_of}
 use Rattle.protocol_ties.specs.Entries.{Shows}
 use Rattle.protocol_ties.specs.MasterRuns.{IsMasters, LeavesRest, MasterRun, goes, raised, stays}
-use Rattle.protocol_ties.specs.Messages.{block_of, hold_of, instances, pleas_of, wire_of, wires_of}
-use Rattle.protocol_ties.specs.Numbered.{AreReached}
+use Rattle.protocol_ties.specs.Messages.{hold_of, instances, pleas_of, wires_of}
 use Rattle.protocol_ties.specs.OnLinks.{all_sent}
 use Rattle.protocol_ties.specs.Places.{hold_at}
 use Rattle.protocol_ties.proofs.About.{wires-here as about-here, wires-there as about-there}
 use Rattle.protocol_ties.proofs.Among.{sends-are-of-the-block}
 use Rattle.protocol_ties.proofs.Bag.{same-trans}
 use Rattle.protocol_ties.proofs.Goes.{sound-after}
-use Rattle.protocol_ties.proofs.Links.{same-over}
 use Rattle.protocol_ties.proofs.Numbered.{num-takes}
 use Rattle.protocol_ties.proofs.OnLinks.{same-sym, sends-in, shows-same}
 use Rattle.protocol_ties.proofs.Places.{cache-changes, masters-leave-caches}
 use Rattle.protocol_ties.proofs.Reacts.{message-is-a-run}
-use Rattle.holder_ties.specs.Beside.{ClocksMayRise, ImageIsChanged, LinksMayDiffer, MasterTakes, RedoMayBeForced, with_image_changed}
-use Rattle.holder_ties.specs.Shown.{AreHoldings, Comes, Holdings, IsShown, IsUnasked, IsUpgrade, clock_then, risen}
+use Rattle.holder_ties.specs.Beside.{ClocksMayRise, ImageIsChanged, LinksMayDiffer, MasterTakes, RedoMayBeForced}
+use Rattle.holder_ties.specs.Shown.{AreHoldings, Holdings, IsUnasked, IsUpgrade, clock_then, risen}
 use Rattle.holder_ties.proofs.Orders.{one-held}
 use Rattle.holder_ties.proofs.Taking.{asked-stays, bag-taken, others-taken, raised-sound, risen-clock, stays-around}
 

@@ -1,8 +1,7 @@
 -- Copies are served and taken.
-use Rattle.std.proofs.Common.{◌≡◌, ◌≢◌, ◌∙◌, ℕ, ◌<◌, ◌≤◌, List, [], ◌∷◌, ◌++◌, refl, sym, ap, subst, arith}
-use Rattle.std.specs.Prelude.{map, max, Option, Some, None}
+use Rattle.std.proofs.Common.{◌≡◌, ◌∙◌, ℕ, ◌<◌, ◌≤◌, List, [], ◌∷◌, ◌++◌, refl, sym, ap, subst, arith}
+use Rattle.std.specs.Prelude.{map, max, Some, None}
 use Rattle.base_types.specs.declared.names.BlockNo.{BlockNo}
-use Rattle.block_image.specs.Block.{BlockContent}
 use Rattle.wire_net.specs.declared.message.Message.{Message}
 use Rattle.wire_net.specs.declared.message.Message.TheVariants as messages
 use Rattle.wire_net.specs.declared.message.Packet.{Packet}
@@ -10,12 +9,11 @@ use Rattle.wire_net.specs.declared.message.Unfound.TheVariants as unfound
 use Rattle.wire_net.specs.declared.message.Lane.TheVariants.{Main}
 use Rattle.wire_net.specs.declared.entry.Entry.{Entry}
 use Rattle.wire_net.specs.Links.{taken}
-use Rattle.buffer_cache.specs.declared.place.Current.{Current}
 use Rattle.buffer_cache.specs.declared.place.Place.{Place}
 use Rattle.buffer_cache.specs.Place.{with_ask}
 use Rattle.block_protocol.specs.Block.{BackCopy, BackShip, Block, Clears, Copy, CopyTo, Done, Grant, GrantNo, Grants, Idle, Inst, Operation, Quiet, Request, Shipped, ShipTo, put}
 use Rattle.block_protocol.specs.Sound.{IsServedOnce}
-use Rattle.block_protocol.specs.Steps.{IsForced, ServesNot, Step, copy_comes_back, serves_copy, takes_copy}
+use Rattle.block_protocol.specs.Steps.{ServesNot, copy_comes_back, serves_copy, takes_copy}
 use Rattle.block_protocol.specs.Wire.{BackCopyWire, CopyToWire, CopyWire, Wire, flights, gather, of_memo, of_note, of_operation, of_request, of_waiting, Same, more}
 use Rattle.block_protocol.proofs.Bags.{Takes-left, Takes-right}
 use Rattle.block_protocol.proofs.Basics.{put-elim, put-other, put-same}
@@ -27,7 +25,7 @@ use Rattle.protocol_ties.specs.Places.{IsPlaceOf}
 use Rattle.protocol_ties.proofs.Origins.{request-taken}
 use Rattle.protocol_ties.proofs.Passes.{came-to}
 use Rattle.holder_ties.specs.HolderRuns.{HolderRun, goes, stays}
-use Rattle.holder_ties.specs.Shown.{AreHoldings, Comes, GoesOn, Holdings, IsShown, IsUnasked, answered, clock_then, risen}
+use Rattle.holder_ties.specs.Shown.{Comes, GoesOn, Holdings, IsShown, IsUnasked, answered, clock_then, risen}
 use Rattle.holder_ties.specs.Holders.{CopyComesBack, CopyIsServed, CopyIsTaken, with_copy}
 use Rattle.holder_ties.proofs.Taking.{bag-taken, goes-answering, goes-silent, risen-clock, stays-around}
 use Rattle.holder_ties.proofs.Orders.{none-held, one-held}

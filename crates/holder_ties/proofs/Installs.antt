@@ -1,15 +1,13 @@
 -- A current image is installed.
-use Rattle.std.proofs.Common.{◌≡◌, ◌≢◌, ◌∙◌, ℕ, ◌<◌, ◌≤◌, Bool, true, false, List, [], ◌∷◌, ◌++◌, refl, sym, ap, subst, arith}
+use Rattle.std.proofs.Common.{◌≡◌, ◌∙◌, ℕ, ◌<◌, ◌≤◌, Bool, true, false, List, [], ◌∷◌, ◌++◌, refl, sym, ap, subst, arith}
 use Rattle.std.specs.Prelude.{map, max, option_map, Option, Some, None}
 use Rattle.base_types.specs.declared.names.BlockNo.{BlockNo}
-use Rattle.block_image.specs.Block.{BlockContent}
 use Rattle.wire_net.specs.declared.message.Message.{Message}
 use Rattle.wire_net.specs.declared.message.Message.TheVariants as messages
 use Rattle.wire_net.specs.declared.message.Mode.{Mode as HoldMode}
 use Rattle.wire_net.specs.declared.message.Mode.TheVariants as modes
 use Rattle.wire_net.specs.declared.message.Packet.{Packet}
 use Rattle.wire_net.specs.declared.entry.PastHolder.{PastHolder}
-use Rattle.wire_net.specs.declared.message.Shipment.{Shipment}
 use Rattle.wire_net.specs.declared.message.Lane.TheVariants.{Main}
 use Rattle.wire_net.specs.declared.entry.Entry.{Entry}
 use Rattle.wire_net.specs.Links.{taken}
@@ -30,7 +28,7 @@ use Rattle.protocol_ties.specs.Places.{ArePlaces}
 use Rattle.protocol_ties.proofs.Origins.{carrier-taken}
 use Rattle.protocol_ties.proofs.Places.{cache-installs, cache-reads, cache-upgrades}
 use Rattle.holder_ties.specs.HolderRuns.{HolderRun, goes, stays}
-use Rattle.holder_ties.specs.Shown.{AreHoldings, Comes, GoesOn, Holdings, IsShown, IsUnasked, IsUpgrade, answered, clock_then, risen}
+use Rattle.holder_ties.specs.Shown.{Comes, GoesOn, Holdings, IsShown, IsUnasked, IsUpgrade, answered, clock_then, risen}
 use Rattle.holder_ties.specs.Holders.{DiskImageIsInstalled, ImageIsUpgraded, ShipmentIsInstalled, is_held, with_image}
 use Rattle.holder_ties.proofs.Taking.{bag-taken, goes-answering, raised-sound}
 use Rattle.holder_ties.proofs.Orders.{other-carrier}
@@ -58,9 +56,14 @@ module _ (me from scn : ℕ) (links : List (List Packet)) (h : Holdings) (block_
       goes-answering me from scn message links h block_no entry block is comes about to (clock_then me scn h) (messages.Done block_no grant mode past) there refl
       (with_image me current (risen me scn h)) now (DoneWire granted.grant) (ap (λ g. Some (DoneWire g)) (sym same))
       (subst (λ (s : Block). HolderRun me (raised me scn block) s) shape run)
-      (record { lists = is.shows.tied.lists; alone = is.shows.tied.alone; sized = is.shows.tied.sized; draws = is.shows.tied.draws;
+      (record {
+        lists = is.shows.tied.lists;
+        alone = is.shows.tied.alone;
+        sized = is.shows.tied.sized;
+        draws = is.shows.tied.draws;
         operation = other-carrier entry.op me granted carrier Done block.lists (subst (λ (o : Operation). IsOperation entry.op o block.lists) op is.shows.tied.operation);
-        known = is.shows.tied.known })
+        known = is.shows.tied.known;
+      })
       (more (DoneWire granted.grant) wires (DoneWire granted.grant ∷ rest) rest (here rest) left) is.shows.requests
       (record {
         images = subst (λ (s : Block). ArePlaces (put h.places me (with_current current (h.places me))) s) shape images;

@@ -1,7 +1,7 @@
 -- An Invalidate is obeyed.
-use Rattle.std.proofs.Common.{◌≡◌, ◌≢◌, ◌∙◌, ℕ, ◌<◌, Bool, true, false, List, [], ◌∷◌, ◌++◌, refl, sym, ap, subst}
+use Rattle.std.proofs.Common.{◌≡◌, ◌≢◌, ◌∙◌, ℕ, ◌<◌, Bool, true, false, List, ◌∷◌, ◌++◌, refl, sym, ap, subst}
 use Rattle.std.specs.Prelude.{map, Option, Some, None}
-use Rattle.std.specs.Prelude.{◌==◌, max}
+use Rattle.std.specs.Prelude.{◌==◌}
 use Rattle.std.proofs.lemmas.Bool.{eqb-true, eqb-false}
 use Rattle.base_types.specs.declared.names.BlockNo.{BlockNo}
 use Rattle.wire_net.specs.declared.message.Message.TheVariants as messages
@@ -9,13 +9,11 @@ use Rattle.wire_net.specs.declared.message.Packet.{Packet}
 use Rattle.wire_net.specs.declared.message.Lane.TheVariants.{Main}
 use Rattle.wire_net.specs.declared.entry.Entry.{Entry}
 use Rattle.wire_net.specs.Links.{taken}
-use Rattle.buffer_cache.specs.declared.place.Place.{Place}
 use Rattle.buffer_cache.specs.Place.{without_grant}
-use Rattle.block_protocol.specs.Block.{Block, GrantNo, Gone, Hold, Inst, Invalidate, Note, Takes, here, put}
+use Rattle.block_protocol.specs.Block.{Block, GrantNo, Gone, Hold, Invalidate, Note, here, put}
 use Rattle.block_protocol.specs.Steps.{invalidates, was_gone}
 use Rattle.block_protocol.specs.Wire.{GoneWire, InvalidateWire, Wire, flights, gather, of_memo, of_note, of_operation, of_request, Same, more}
 use Rattle.block_protocol.proofs.Bags.{Takes-right}
-use Rattle.block_protocol.proofs.Basics.{put-same}
 use Rattle.protocol_ties.specs.Messages.{instances, pleas_of}
 use Rattle.protocol_ties.specs.Bags.{bag_of}
 use Rattle.protocol_ties.specs.MasterRuns.{raised}

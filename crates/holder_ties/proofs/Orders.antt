@@ -1,6 +1,6 @@
 -- An order to ship an image is followed.
-use Rattle.std.proofs.Common.{◌≡◌, ◌≢◌, ◌∙◌, ℕ, ◌<◌, Bool, true, false, List, [], ◌∷◌, ◌++◌, refl, sym, ap, subst}
-use Rattle.std.specs.Prelude.{map, max, Option, Some, None}
+use Rattle.std.proofs.Common.{◌≡◌, ◌≢◌, ◌∙◌, ℕ, ◌<◌, Bool, true, false, List, ◌∷◌, ◌++◌, refl, sym, ap, subst}
+use Rattle.std.specs.Prelude.{map, Option, Some, None}
 use Rattle.base_types.specs.declared.names.BlockNo.{BlockNo}
 use Rattle.wire_net.specs.declared.message.Message.{Message}
 use Rattle.wire_net.specs.declared.message.Message.TheVariants as messages
@@ -14,11 +14,11 @@ use Rattle.wire_net.specs.Links.{taken}
 use Rattle.buffer_cache.specs.declared.place.Current.{Current}
 use Rattle.buffer_cache.specs.declared.place.Place.{Place}
 use Rattle.buffer_cache.specs.Place.{given_up}
-use Rattle.block_protocol.specs.Block.{BackShip, Block, Carrier, Exclusive, GrantNo, Grants, Hold, Inst, Mode, Quiet, Shared, ShipTo, Shipped, here, past_kept, put}
+use Rattle.block_protocol.specs.Block.{BackShip, Block, Carrier, Exclusive, GrantNo, Grants, Hold, Inst, Quiet, Shared, ShipTo, Shipped, here, past_kept, put}
 use Rattle.block_protocol.specs.Sound.{Listing}
 use Rattle.block_protocol.specs.Steps.{IsForced, ServesNot, left as left_at, ship_comes_back, ships}
-use Rattle.block_protocol.specs.Wire.{BackShipWire, ShippedWire, ShipToWire, Wire, flights, gather, of_memo, of_note, of_request, Same, more}
-use Rattle.block_protocol.proofs.Basics.{put-elim, put-same}
+use Rattle.block_protocol.specs.Wire.{BackShipWire, ShippedWire, ShipToWire, Wire, gather, of_memo, of_note, of_request, Same, more}
+use Rattle.block_protocol.proofs.Basics.{put-elim}
 use Rattle.protocol_ties.specs.Entries.{IsOperation}
 use Rattle.protocol_ties.specs.Messages.{block_of, instances, pleas_of, shipped_hold, wire_of}
 use Rattle.protocol_ties.specs.Bags.{bag_of}

@@ -1,32 +1,26 @@
 -- An instance asks, evicts, writes and tells of its own accord.
-use Rattle.std.proofs.Common.{◌≡◌, ◌≢◌, ◌∙◌, ℕ, ◌<◌, ◌≤◌, Bool, true, false, List, [], ◌∷◌, ◌++◌, length, refl, sym, ap, subst}
+use Rattle.std.proofs.Common.{◌≡◌, ◌≢◌, ◌∙◌, ℕ, ◌≤◌, true, false, List, ◌∷◌, ◌++◌, length, refl, sym, ap, subst}
 use Rattle.std.specs.Prelude.{map, option_map, Option, Some, None}
-use Rattle.base_types.specs.declared.names.BlockNo.{BlockNo}
-use Rattle.wire_net.specs.declared.message.Message.{Message}
 use Rattle.wire_net.specs.declared.message.Message.TheVariants as messages
 use Rattle.wire_net.specs.declared.message.Mode.{Mode as HoldMode}
 use Rattle.wire_net.specs.declared.message.Mode.TheVariants as modes
-use Rattle.wire_net.specs.declared.message.Packet.{Packet}
-use Rattle.wire_net.specs.declared.entry.Entry.{Entry}
 use Rattle.buffer_cache.specs.declared.place.Current.{Current}
 use Rattle.buffer_cache.specs.declared.place.PastImage.{PastImage}
 use Rattle.buffer_cache.specs.declared.place.Place.{Place}
 use Rattle.buffer_cache.specs.Place.{marked, with_ask, with_past_asked, with_written, without_clean}
-use Rattle.block_protocol.specs.Block.{Asks, Block, GaveUp, Hold, Inst, Please, Quiet, Read, Request, Shared, Upgrade, Want, Write, Wrote, put}
-use Rattle.block_protocol.specs.Steps.{IsForced, IsReadyToAsk, asks, evicts, pleads, tells_written, writes}
+use Rattle.block_protocol.specs.Block.{Asks, Block, GaveUp, Inst, Please, Read, Request, Shared, Upgrade, Want, Write, Wrote, put}
+use Rattle.block_protocol.specs.Steps.{IsReadyToAsk, asks, evicts, pleads, tells_written, writes}
 use Rattle.block_protocol.specs.Wire.{Ask, GaveUpWire, PleaseWire, Wire, WroteWire, flights, gather, of_memo, of_note, of_operation, of_request, of_waiting, Same, more}
 use Rattle.block_protocol.proofs.Bags.{Takes-left, Takes-right}
-use Rattle.block_protocol.proofs.Basics.{put-elim, put-other, put-same}
+use Rattle.block_protocol.proofs.Basics.{put-elim, put-other}
 use Rattle.block_protocol.proofs.RefinesAsk.{gather-comes, gather-none}
 use Rattle.protocol_ties.specs.Messages.{asks_of, hold_of, instances, pleas_of, want_of, wire_of}
 use Rattle.protocol_ties.specs.Bags.{bag_of}
 use Rattle.protocol_ties.specs.Places.{ArePlaces, IsPlaceOf, hold_at, past_version_of}
-use Rattle.protocol_ties.proofs.Origins.{some-one}
 use Rattle.protocol_ties.proofs.Places.{cache-evicts, cache-writes, grant-of}
 use Rattle.holder_ties.specs.HolderRuns.{goes, stays}
-use Rattle.holder_ties.specs.Holders.{is_held}
-use Rattle.holder_ties.specs.Own.{AskGoesOut, ImageIsEvicted, ImageIsWritten, MayAskBeside, WriteIsPleaded, WriteIsTold, told, with_image_written}
-use Rattle.holder_ties.specs.Shown.{AreHoldings, Does, Holdings, IsShown, IsUnasked, with_place}
+use Rattle.holder_ties.specs.Own.{AskGoesOut, ImageIsEvicted, ImageIsWritten, MayAskBeside, WriteIsPleaded, WriteIsTold, with_image_written}
+use Rattle.holder_ties.specs.Shown.{IsUnasked, with_place}
 use Rattle.holder_ties.proofs.Taking.{asked-stays, does-sending, does-silent}
 use Rattle.holder_ties.proofs.Invalidates.{note-comes}
 use Rattle.holder_ties.proofs.Orders.{none-held, one-held}

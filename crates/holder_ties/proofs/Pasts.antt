@@ -1,6 +1,6 @@
 -- Past images are dropped, and pleas to write are taken.
-use Rattle.std.proofs.Common.{◌≡◌, ◌≢◌, ◌∙◌, ℕ, ◌<◌, List, [], ◌∷◌, ◌++◌, refl, sym, ap, subst}
-use Rattle.std.specs.Prelude.{map, max, Option, Some, None, false}
+use Rattle.std.proofs.Common.{◌≡◌, ◌∙◌, ℕ, ◌<◌, List, ◌∷◌, ◌++◌, refl, sym, ap, subst}
+use Rattle.std.specs.Prelude.{map, Some, None, false}
 use Rattle.base_types.specs.declared.names.BlockNo.{BlockNo}
 use Rattle.wire_net.specs.declared.message.Message.{Message}
 use Rattle.wire_net.specs.declared.message.Message.TheVariants as messages

@@ -1,7 +1,6 @@
 -- A packet is taken, and an answer is sent: what is under way on the block, and on the others.
 use Rattle.std.proofs.Common.{◌≡◌, ◌≢◌, ◌∙◌, ℕ, ◌<◌, List, [], ◌∷◌, ◌++◌, refl, sym, ap, subst, length, cond}
-use Rattle.std.specs.Prelude.{option_to_list, drop, max, Option, Some}
-use Rattle.std.specs.List.{AllByRecursion}
+use Rattle.std.specs.Prelude.{option_to_list, drop, max, Some}
 use Rattle.std.proofs.lemmas.Bool.{eq-eqb, ne_eqb}
 use Rattle.std.proofs.lemmas.List.{length-set}
 use Rattle.base_types.specs.declared.names.BlockNo.{BlockNo}
@@ -18,7 +17,6 @@ use Rattle.block_protocol.proofs.Bags.{same-refl}
 use Rattle.block_protocol.proofs.Basics.{put-elim, put-same}
 use Rattle.block_protocol.proofs.Directory.{Sound-step}
 use Rattle.protocol_ties.specs.Messages.{asks_of, block_of, instances, pleas_of, wire_of}
-use Rattle.protocol_ties.specs.Entries.{Shows}
 use Rattle.protocol_ties.specs.AmongAll.{is_block, wires_at}
 use Rattle.protocol_ties.specs.Bags.{bag_of}
 use Rattle.protocol_ties.specs.MasterRuns.{raised}

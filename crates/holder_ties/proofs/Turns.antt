@@ -1,10 +1,10 @@
 -- What an instance does with its image is a run of turns of all blocks.
-use Rattle.std.proofs.Common.{◌≡◌, ◌≢◌, ◌∙◌, Bool, refl, sym, ap, subst, arith, true, inl}
+use Rattle.std.proofs.Common.{◌≡◌, ◌∙◌, refl, sym, ap, subst, arith, true, inl}
 use Rattle.block_protocol.specs.Block.{Block, Inst, Scn, put}
 use Rattle.block_protocol.specs.Steps.{Step, asks, arrives, forwards_request, forwards_note, forwards_ship, steps_back, sends_copy, orders, gives_shared, begins_to_clear, gives, invalidates, was_gone, ships, ship_comes_back, serves_copy, copy_comes_back, asks_to_write, takes_wish, write_comes_back, takes_copy, installs_shipped, installs_from_disk, installs_held, evicts, ends, hears_gone, hears_back_write, hears_gave_up, ends_before_done, drops_stale, asks_copy_again, asks_ship_again, changes, writes, pleads, tells_written, hears_written, hears_plea, passes_plea, lets_drop, drops_past, forces, uses, uses_copy, drops_copy, raises, sends_entry, takes_entry}
-use Rattle.block_protocol.specs.Members.{Cluster, IsAwake, Members, Permits, Phase, RedoComes, actual_after}
+use Rattle.block_protocol.specs.Members.{Cluster, IsAwake, Members, Permits, RedoComes, actual_after}
 use Rattle.block_protocol.specs.Turns.{IsEra}
-use Rattle.block_protocol.specs.AllBlocks.{AllBlocks, BlockNo, RunOfAll, TurnOfAll, after_step, all_end, all_go, one_acts, seen, view}
+use Rattle.block_protocol.specs.AllBlocks.{AllBlocks, BlockNo, TurnOfAll, after_step, all_end, all_go, one_acts, seen, view}
 use Rattle.block_protocol.proofs.Basics.{put-other, put-same}
 use Rattle.holder_ties.specs.HolderRuns.{HolderRun, IsHolders, goes, stays}
 use Rattle.holder_ties.specs.HolderTurns.{HolderRunsAreTurnsOfAll, LeadsBlock}

@@ -1,5 +1,5 @@
 -- What a block shows as others act: the other blocks, a clock that rises, redo that is forced, a master that takes a message.
-use Rattle.std.specs.Prelude.{◌≡◌, ◌<◌, ◌≤◌, ◌+◌, List, ◌∷◌, ◌++◌, length, Some, max, false, true}
+use Rattle.std.specs.Prelude.{◌≡◌, ◌+◌, List, ◌∷◌, Some, max, false, true}
 use Rattle.base_types.specs.declared.names.BlockNo.{BlockNo}
 use Rattle.base_types.specs.declared.names.RedoAt.{RedoAt}
 use Rattle.redo_types.specs.declared.blocks.RowChange.{RowChange}
@@ -8,12 +8,11 @@ use Rattle.wire_net.specs.declared.message.Message.{Message}
 use Rattle.wire_net.specs.declared.message.Mode.TheVariants as modes
 use Rattle.wire_net.specs.declared.message.Packet.{Packet}
 use Rattle.wire_net.specs.declared.entry.Entry.{Entry}
-use Rattle.wire_net.specs.Links.{sent, taken}
+use Rattle.wire_net.specs.Links.{taken}
 use Rattle.resource_dir.specs.Takes.{takes}
 use Rattle.buffer_cache.specs.declared.place.Current.{Current}
-use Rattle.buffer_cache.specs.declared.place.Place.{Place}
 use Rattle.buffer_cache.specs.Place.{with_change}
-use Rattle.block_protocol.specs.Block.{At, Block, Inst, Record, Scn, put}
+use Rattle.block_protocol.specs.Block.{At, Block, Inst, Scn, put}
 use Rattle.block_protocol.specs.Steps.{Step, forced}
 use Rattle.block_protocol.specs.Wire.{Same, Wire}
 use Rattle.protocol_ties.specs.AmongAll.{WaitsAbout}
@@ -23,7 +22,7 @@ use Rattle.protocol_ties.specs.Messages.{block_of, wire_of}
 use Rattle.protocol_ties.specs.Numbered.{IsMessageNumbered, IsNumbered}
 use Rattle.protocol_ties.specs.OnLinks.{all_sent}
 use Rattle.protocol_ties.specs.Takes.{HasRoom, IsForMaster, IsOfMade}
-use Rattle.holder_ties.specs.Shown.{Comes, Holdings, IsShown, clock_then, risen, with_place}
+use Rattle.holder_ties.specs.Shown.{Comes, Holdings, IsShown, clock_then, risen}
 
 -- A block is shown by other links too that bear the same messages on it.
 abbrev pub LinksMayDiffer : Type 0

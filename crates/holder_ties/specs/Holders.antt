@@ -12,10 +12,8 @@ use Rattle.wire_net.specs.declared.message.Unfound.TheVariants as unfound
 use Rattle.wire_net.specs.declared.entry.Entry.{Entry}
 use Rattle.wire_net.specs.Links.{taken}
 use Rattle.buffer_cache.specs.declared.place.Current.{Current}
-use Rattle.buffer_cache.specs.declared.place.Place.{Place}
 use Rattle.block_image.specs.Block.{BlockContent}
 use Rattle.buffer_cache.specs.Place.{given_up, read_from_disk, shipped, upgraded, with_ask, with_current, with_wish, without_grant, without_past}
-use Rattle.block_protocol.specs.Images.{GoodImages}
 use Rattle.block_protocol.specs.Steps.{IsForced}
 use Rattle.block_protocol.specs.Block.{Block, GrantNo, Inst, Scn, Version, put}
 use Rattle.protocol_ties.specs.Messages.{instances}

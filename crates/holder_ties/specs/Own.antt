@@ -1,8 +1,6 @@
 -- What an instance does with its image of its own accord.
-use Rattle.std.specs.Prelude.{◌≡◌, ◌<◌, ◌≤◌, ◌+◌, ◌⊎◌, List, length, ◌∷◌, None, Some, true, false}
+use Rattle.std.specs.Prelude.{◌≡◌, ◌<◌, ◌≤◌, List, length, None, Some, true, false}
 use Rattle.base_types.specs.declared.names.BlockNo.{BlockNo}
-use Rattle.base_types.specs.declared.names.RedoAt.{RedoAt}
-use Rattle.redo_types.specs.declared.blocks.RowChange.{RowChange}
 use Rattle.wire_net.specs.declared.message.Message.{Message}
 use Rattle.wire_net.specs.declared.message.Message.TheVariants as messages
 use Rattle.wire_net.specs.declared.message.Mode.{Mode}

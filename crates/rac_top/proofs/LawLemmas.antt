@@ -16,6 +16,11 @@ use Rattle.line_laws.proofs.All.{all}
 use Rattle.line_laws.proofs.Once.{once}
 use Rattle.line_laws.proofs.Openings.{run_asked}
 use Rattle.line_laws.proofs.Worlds.{run_lines}
+use Rattle.end_laws.proofs.CalmWorlds.{calm_proper, run_known}
+use Rattle.end_laws.proofs.Worlds.{run_backed}
+use Rattle.wave_laws.proofs.Over.{run_overs, whole}
+use Rattle.wave_laws.proofs.Turns.{kept, run_turns}
+use Rattle.wave_laws.proofs.Waved.{asked_in_waves, run_waved}
 use Rattle.rac_top.specs.Laws.{KeepsLaws}
 
 -- the journal of a run is what was added to that of its first world, which is empty
@@ -32,6 +37,11 @@ keeps-laws script it disk disk_now fit runs =
       in_turn = lines.turns;
       asked = run_asked script _ runs.first disk it.ran.book it.ran.words it.world disk_now fit runs.starts runs.run;
       answered = λ over. all script it.world fit lines over;
+      acknowledgements = (run_backed script _ runs.first disk it.ran.book it.ran.words it.world disk_now runs.starts runs.run).proper;
+      turns = kept script it.world fit (run_turns script _ runs.first disk it.ran.book it.ran.words it.world disk_now fit runs.starts runs.run);
+      control_lines = asked_in_waves script it.world fit (run_waved script _ runs.first disk it.ran.book it.ran.words it.world disk_now fit runs.starts runs.run);
+      whole = λ over. whole script it.world fit (run_overs script _ runs.first disk it.ran.book it.ran.words it.world disk_now fit runs.starts runs.run) over;
+      commits = calm_proper script it.world (run_known script _ runs.first disk it.ran.book it.ran.words it.world disk_now fit runs.starts runs.run);
       ends = runs_count _ runs.first disk it.ran.book it.ran.words it.world disk_now runs.run it.world.core.journal
           (adds_all script runs.first it.world runs.starts);
     }

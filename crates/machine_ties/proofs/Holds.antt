@@ -1,0 +1,231 @@
+-- An instance acts on its image of one block: the others play on.
+use Rattle.std.proofs.Common.{◌≡◌, ◌≢◌, ◌∙◌, ℕ, ◌<◌, ◌≤◌, List, length, refl, sym, ap, subst, arith, ◌⊎◌, inl, inr}
+use Rattle.std.specs.Prelude.{is_some, Option, Some, slice_get, slice_index_or, slice_set, true, Bool, ◌%◌}
+use Rattle.std.specs.List.{AllByRecursion}
+use Rattle.base_types.specs.declared.names.BlockNo.{BlockNo}
+use Rattle.wire_net.specs.declared.entry.Entry.{Entry}
+use Rattle.wire_net.specs.declared.masters.Masters.{Masters}
+use Rattle.wire_net.specs.declared.message.Packet.{Packet}
+use Rattle.resource_dir.specs.Directory.{bucket_of, entry_of}
+use Rattle.buffer_cache.specs.Cache.{place_at}
+use Rattle.inst_state.specs.declared.inst.Inst.{Inst}
+use Rattle.inst_state.specs.declared.inst.Leading.{Leading}
+use Rattle.inst_state.specs.declared.inst.Mastering.{Mastering}
+use Rattle.inst_state.specs.declared.plan.Plan.{Plan}
+use Rattle.inst_state.specs.State.{newest_at}
+use Rattle.redo_thread.specs.Thread.{ThreadState, end_of}
+use Rattle.image_steps.specs.MasterTake.{is_master}
+use Rattle.block_protocol.specs.AllBlocks.{view}
+use Rattle.block_protocol.specs.Block.{Block, Record, Scn}
+use Rattle.block_protocol.specs.Steps.{IsForced, Step, arrives, asks, asks_copy_again, asks_ship_again, asks_to_write, begins_to_clear, changes, copy_comes_back, drops_copy, drops_past, drops_stale, ends, ends_before_done, evicts, forces, forwards_note, forwards_request, forwards_ship, gives, gives_shared, hears_back_write, hears_gave_up, hears_gone, hears_plea, hears_written, installs_from_disk, installs_held, installs_shipped, invalidates, lets_drop, orders, passes_plea, pleads, raises, sends_copy, sends_entry, serves_copy, ship_comes_back, ships, steps_back, takes_copy, takes_entry, takes_wish, tells_written, uses, uses_copy, was_gone, write_comes_back, writes}
+use Rattle.block_protocol.specs.Wire.{Same}
+use Rattle.protocol_ties.specs.Bags.{AreLinks, bag_of}
+use Rattle.protocol_ties.specs.Directories.{IsSized}
+use Rattle.protocol_ties.proofs.Origins.{some-one}
+use Rattle.protocol_ties.proofs.Turns.{all-after}
+use Rattle.holder_ties.specs.HolderRuns.{HolderRun, IsHolders, goes, stays}
+use Rattle.holder_ties.specs.Shown.{Holdings, IsShown}
+use Rattle.machine_ties.specs.InstPlaces.{place_of}
+use Rattle.machine_ties.proofs.Led.{Led}
+use Rattle.machine_ties.specs.Sane.{AreSaneLinks}
+use Rattle.machine_ties.proofs.Links.{links-later, queue-later}
+use Rattle.machine_ties.specs.Plays.{AreOfBlocks, Follows, IsFine, Plays, Serves, clock_of, newest}
+use Rattle.machine_ties.proofs.Plays.{durable-before, each-after, other-clocks, other-links, read-after, same-or-not, set-here, set-there}
+
+-- What a step with an image leaves of an instance: all but its clock, its cache, its sessions and its wave.
+pub record Alike (n m : Inst) : Type 0 where
+  pub plan : m.plan ≡ n.plan
+  pub life : m.life ≡ n.life
+  pub paused : m.paused ≡ n.paused
+  pub leading : m.leading ≡ n.leading
+  pub mastering : m.mastering ≡ n.mastering
+  pub newest : m.newest ≡ n.newest
+  pub thread : m.thread ≡ n.thread
+  pub cached : length m.cache.places ≡ length n.cache.places
+  pub numbers : AreOfBlocks n.cache → AreOfBlocks m.cache
+
+pub serves-still : (count blocks i : ℕ) (n m : Inst) → Alike n m → Serves count blocks i n → Serves count blocks i m
+serves-still count blocks i n m a s = record {
+  cached = a.cached ∙ s.cached;
+  numbers = a.numbers s.numbers;
+  reached = λ b. subst (λ (t : ThreadState). newest_at m b ≤ end_of t) (sym a.thread) (subst (λ (x : ℕ). x ≤ end_of n.thread) (sym (ap (λ (places : List ℕ). slice_index_or places b 0) a.newest)) (s.reached b));
+  low = s.low;
+  me = ap (λ (p : Plan). p.me) a.plan ∙ s.me;
+  up = a.life ∙ s.up;
+  paused = a.paused ∙ s.paused;
+  leads = ap (λ (l : Leading). l.leads) a.leading ∙ s.leads;
+  adopted = ap (λ (l : Leading). l.adopted) a.leading ∙ s.adopted;
+  sized = subst (λ (g : Mastering). IsSized g.directory) (sym a.mastering) s.sized;
+}
+
+-- the steps of a holder leave the entry where it is
+place-step : (me : ℕ) {s t : Block} (step : Step s t) → IsHolders me step → t.place ≡ s.place
+place-step me (asks p_block p_inst p_want p_p1 p_p2 p_p3) is = refl
+place-step me (arrives p_block p_inst p_want p_scn p_p1 p_p2) is = absurd is
+place-step me (forwards_request p_block p_inst p_clock) is = absurd is
+place-step me (forwards_note p_block p_clock p_note p_rest p_p1) is = absurd is
+place-step me (forwards_ship p_block p_clock p_asker p_granted p_grant p_scn p_p1) is = absurd is
+place-step me (steps_back p_block p_inst p_want p_p1 p_p2 p_p3) is = absurd is
+place-step me (sends_copy p_block p_inst p_holder p_grant p_p1 p_p2 p_p3) is = absurd is
+place-step me (orders p_block p_inst p_want p_holder p_grant p_p1 p_p2 p_p3 p_p4 p_p5) is = absurd is
+place-step me (gives_shared p_block p_inst p_p1 p_p2 p_p3) is = absurd is
+place-step me (begins_to_clear p_block p_inst p_want p_sent p_p1 p_p2 p_p3 p_p4 p_p5 p_p6) is = absurd is
+place-step me (gives p_block p_inst p_want p_p1 p_p2) is = absurd is
+place-step me (invalidates p_block p_holder p_hold p_rest p_p1 p_p2) is = refl
+place-step me (was_gone p_block p_holder p_grant p_rest p_p1 p_p2) is = refl
+place-step me (ships p_block p_asker p_granted p_holder p_grant p_hold p_p1 p_p2 p_p3) is = refl
+place-step me (ship_comes_back p_block p_asker p_granted p_holder p_grant p_p1 p_p2) is = refl
+place-step me (serves_copy p_block p_inst p_holder p_grant p_hold p_p1 p_p2 p_p3) is = refl
+place-step me (copy_comes_back p_block p_inst p_holder p_grant p_p1 p_p2) is = refl
+place-step me (asks_to_write p_block p_holder p_grant p_p1 p_p2) is = absurd is
+place-step me (takes_wish p_block p_holder p_grant p_rest p_p1) is = refl
+place-step me (write_comes_back p_block p_holder p_grant p_rest p_p1 p_p2) is = refl
+place-step me (takes_copy p_block p_inst p_version p_upto p_scn p_p1 p_p2) is = refl
+place-step me (installs_shipped p_block p_asker p_granted p_version p_dirty p_scn p_p1 p_p2) is = refl
+place-step me (installs_from_disk p_block p_asker p_granted p_scn p_p1 p_p2) is = refl
+place-step me (installs_held p_block p_asker p_granted p_scn p_p1 p_p2) is = refl
+place-step me (evicts p_block p_inst p_hold p_p1 p_p2 p_p3 p_p4) is = refl
+place-step me (ends p_block p_asker p_granted p_p1) is = absurd is
+place-step me (hears_gone p_block p_grant p_scn p_rest p_p1 p_p2) is = absurd is
+place-step me (hears_back_write p_block p_grant p_scn p_rest p_p1 p_p2) is = absurd is
+place-step me (hears_gave_up p_block p_grant p_scn p_rest p_p1 p_p2 p_p3) is = absurd is
+place-step me (ends_before_done p_block p_asker p_granted p_carrier p_scn p_rest p_p1 p_p2 p_p3) is = absurd is
+place-step me (drops_stale p_block p_grant p_rest p_p1) is = absurd is
+place-step me (asks_copy_again p_block p_inst p_grant p_scn p_p1 p_p2) is = absurd is
+place-step me (asks_ship_again p_block p_asker p_granted p_grant p_scn p_p1 p_p2) is = absurd is
+place-step me (changes p_block p_inst p_hold p_p1 p_p2) is = absurd is
+place-step me (writes p_block p_inst p_hold p_p1 p_p2 p_p3) is = refl
+place-step me (pleads p_block p_version p_p1) is = refl
+place-step me (tells_written p_block p_inst p_hold p_p1 p_p2) is = refl
+place-step me (hears_written p_block p_version p_rest p_p1) is = absurd is
+place-step me (hears_plea p_block p_version p_rest p_p1 p_p2 p_p3) is = absurd is
+place-step me (passes_plea p_block p_version p_rest p_p1) is = absurd is
+place-step me (lets_drop p_block p_inst p_version p_p1) is = absurd is
+place-step me (drops_past p_block p_inst p_version p_rest p_p1) is = refl
+place-step me (forces p_block p_inst) is = absurd is
+place-step me (uses p_block p_inst p_hold p_scn p_p1 p_p2) is = absurd is
+place-step me (uses_copy p_block p_inst p_scn p_copy p_rest p_p1 p_p2) is = absurd is
+place-step me (drops_copy p_block p_inst p_copy p_rest p_p1) is = refl
+place-step me (raises p_block p_inst p_scn p_p1) is = absurd is
+place-step me (sends_entry p_block p_inst p_p1) is = absurd is
+place-step me (takes_entry p_block p_inst p_scn p_p1 p_p2) is = absurd is
+
+pub holder-place : {me : ℕ} {s t : Block} → HolderRun me s t → t.place ≡ s.place
+holder-place (stays s) = refl
+holder-place {me = me} (goes step is rest) = holder-place rest ∙ place-step me step is
+
+module _ (count steps blocks : ℕ) (links : List (List Packet)) (masters : Masters) (insts : List Inst) (p : Plays count steps blocks links masters insts)
+    (me : ℕ) (n m : Inst) (at : slice_get insts me ≡ Some n) (alike : Alike n m) where
+  abbrev later : List Inst
+  later = slice_set insts me m
+
+  -- the instance at a place masters what it mastered
+  seat-after : (i : ℕ) (k : Inst) → slice_get insts i ≡ Some k → (l : Inst) × (slice_get later i ≡ Some l) × (l.mastering ≡ k.mastering)
+  seat-after i k is = go (same-or-not i me)
+    where
+      go : (i ≡ me) ⊎ (i ≢ me) → (l : Inst) × (slice_get later i ≡ Some l) × (l.mastering ≡ k.mastering)
+      go (inl e) =
+          let own : Some n ≡ Some k = sym at ∙ ap (slice_get insts) (sym e) ∙ is in
+          let same : n ≡ k = some-one n k own in
+          (m, ap (slice_get later) e ∙ set-here insts me n m at, alike.mastering ∙ ap (λ (x : Inst). x.mastering) same)
+      go (inr ne) = (k, set-there insts me i m ne ∙ is, refl)
+
+  -- who masters a block did so before
+  only-after : (b master : ℕ) → ((i : ℕ) (k : Inst) → slice_get insts i ≡ Some k → is_master k b ≡ true → i ≡ master) → (i : ℕ) (k : Inst) → slice_get later i ≡ Some k → is_master k b ≡ true → i ≡ master
+  only-after b master only =
+      each-after insts me n m at (λ i k. is_master k b ≡ true → i ≡ master) only
+      (λ is. only me n at (subst (λ (g : Mastering). is_some (bucket_of g.directory (b % 16)) ≡ true) alike.mastering is))
+
+  newest-same : (b : ℕ) → newest_at m b ≡ newest_at n b
+  newest-same b = ap (λ (places : List ℕ). slice_index_or places b 0) alike.newest
+
+  -- another block follows on, whose clocks and links are others
+  pub other-follows : (b c : BlockNo) (after : Block) (clock : ℕ → Scn) (links_now : List (List Packet)) → (led : Led p.whole clock b after) → AreLinks links_now → Same (bag_of c links) (bag_of c links_now)
+      → (place_at m.cache c ≡ place_at n.cache c) → c ≢ b → Follows links insts p.whole c → Follows links_now later led.last c
+  other-follows b c after clock links_now led sized bag same ne f =
+      let seat = seat-after f.master f.seat f.there in
+      let here : (view led.last c).block ≡ record (view p.whole c).block { clock = clock } = led.others c ne in
+      record {
+        entry = f.entry;
+        h = record f.h { clock = clock };
+        shown = subst (λ (s : Block). IsShown links_now (record f.h { clock = clock }) c f.entry s) (sym here)
+            (other-links links links_now (record f.h { clock = clock }) c f.entry (record (view p.whole c).block { clock = clock })
+            (other-clocks links f.h c f.entry (view p.whole c).block clock f.shown) sized bag);
+        places = read-after insts me n m at (λ (o : Option Inst). place_of o c) f.h.places (λ i apart. f.places i) (f.places me ∙ ap (λ (o : Option Inst). place_of o c) at ∙ sym same);
+        master = f.master;
+        seat = seat.0;
+        there = seat.1;
+        is_entry = ap (λ (g : Mastering). entry_of g.directory c) seat.2 ∙ f.is_entry;
+        at_master = ap (λ (s : Block). s.place) here ∙ f.at_master;
+        only = only-after c f.master f.only;
+        durable = λ i d. subst (λ (s : Block). IsForced s i) (sym here) (f.durable i (durable-before insts me n m at c i (newest-same c) (ap (λ (t : ThreadState). t.durable) alike.thread) d));
+      }
+
+  -- What an instance did with its image of a block, as the protocol has it.
+  pub record Did (b : BlockNo) (f : Follows links insts p.whole b) (clock : ℕ → Scn) (links_now : List (List Packet)) (after : Block) (h : Holdings) : Type 0 where
+    pub led : Led p.whole clock b after
+    pub shown : IsShown links_now h b f.entry after
+    pub bags : (d : BlockNo) → d ≢ b → Same (bag_of d links) (bag_of d links_now)
+    pub place : after.place ≡ (view p.whole b).block.place
+    pub records : after.records ≡ (view p.whole b).block.records
+    pub others : (i : ℕ) → i ≢ me → h.places i ≡ f.h.places i
+    pub own : h.places me ≡ place_at m.cache b
+
+  this-follows : (b : BlockNo) (f : Follows links insts p.whole b) (clock : ℕ → Scn) (links_now : List (List Packet)) (after : Block) (h : Holdings) (it : Did b f clock links_now after h) → Follows links_now later it.led.last b
+  this-follows b f clock links_now after h it =
+      let seat = seat-after f.master f.seat f.there in
+      record {
+        entry = f.entry;
+        h = h;
+        shown = subst (λ (s : Block). IsShown links_now h b f.entry s) (sym it.led.here) it.shown;
+        places = read-after insts me n m at (λ (o : Option Inst). place_of o b) h.places (λ i apart. it.others i apart ∙ f.places i) it.own;
+        master = f.master;
+        seat = seat.0;
+        there = seat.1;
+        is_entry = ap (λ (g : Mastering). entry_of g.directory b) seat.2 ∙ f.is_entry;
+        at_master = ap (λ (s : Block). s.place) it.led.here ∙ it.place ∙ f.at_master;
+        only = only-after b f.master f.only;
+        durable = λ i d. subst (λ (rs : List Record). AllByRecursion (λ redo. redo.maker ≡ i → redo.durable ≡ true) rs) (sym (ap (λ (s : Block). s.records) it.led.here ∙ it.records))
+            (f.durable i (durable-before insts me n m at b i (newest-same b) (ap (λ (t : ThreadState). t.durable) alike.thread) d));
+      }
+
+  -- all blocks play on
+  pub plays-on : (b : BlockNo) → b < blocks → (f : Follows links insts p.whole b) (clock : ℕ → Scn) (links_now : List (List Packet)) (after : Block) (h : Holdings) (it : Did b f clock links_now after h)
+      → ((i : ℕ) → i ≢ me → clock i ≡ p.whole.clock i) → clock me ≡ m.clock.scn → ((c : ℕ) → c ≢ b → place_at m.cache c ≡ place_at n.cache c) → AreSaneLinks (newest p.whole) links_now
+      → Plays count steps blocks links_now masters later
+  plays-on b few f clock links_now after h it others own places sane =
+      let led = it.led in
+      let made : (c : ℕ) → newest led.last c ≡ newest p.whole c = λ c. made-same c (same-or-not c b) in
+      record {
+        whole = led.last;
+        first_master = p.first_master;
+        run = all-after p.run led.run;
+        phase = led.phase ∙ p.phase;
+        live = λ i low. ap (λ (l : ℕ → Bool). l i) led.live ∙ p.live i low;
+        awake = led.awake;
+        few = p.few;
+        sized = it.shown.sized;
+        each = each-after insts me n m at (Serves count blocks) p.each (serves-still count blocks me n m alike (p.each me n at));
+        named = p.named;
+        clocks = read-after insts me n m at clock_of led.last.clock (λ i apart. ap (λ (c : ℕ → Scn). c i) led.clocks ∙ others i apart ∙ p.clocks i) (ap (λ (c : ℕ → Scn). c me) led.clocks ∙ own);
+        sane = links-later (newest p.whole) (newest led.last) (λ c. let same = made c in omega (arith, same)) links_now sane;
+        entries = λ j x d what is_there is_it. each-after insts me n m at (λ i k. (c : BlockNo) (entry : Entry) → entry_of k.mastering.directory c ≡ Some entry → IsFine (newest led.last) steps c entry)
+            (λ i k is c entry e. fine-still c entry made (p.entries i k c entry is e))
+            (λ c entry e. fine-still c entry made (p.entries me n c entry at (sym (ap (λ (g : Mastering). entry_of g.directory c) alike.mastering) ∙ e))) j x is_there d what is_it;
+        follows = λ c low. follows-at c low (same-or-not c b);
+      }
+    where
+      made-same : (c : ℕ) → (c ≡ b) ⊎ (c ≢ b) → newest it.led.last c ≡ newest p.whole c
+      made-same c (inl e) = subst (λ (d : ℕ). newest it.led.last d ≡ newest p.whole d) (sym e) (ap (λ (s : Block). length s.records) it.led.here ∙ ap (λ (rs : List Record). length rs) it.records)
+      made-same c (inr ne) = ap (λ (s : Block). length s.records) (it.led.others c ne)
+
+      fine-still : (c : BlockNo) (entry : Entry) → ((d : ℕ) → newest it.led.last d ≡ newest p.whole d) → IsFine (newest p.whole) steps c entry → IsFine (newest it.led.last) steps c entry
+      fine-still c entry made fine = record {
+        names = fine.names;
+        waits = queue-later (newest p.whole) (newest it.led.last) (λ d. let same = made d in omega (arith, same)) entry.queue fine.waits;
+        drawn = fine.drawn;
+      }
+
+      follows-at : (c : BlockNo) → c < blocks → (c ≡ b) ⊎ (c ≢ b) → Follows links_now later it.led.last c
+      follows-at c low (inl e) = subst (λ (d : ℕ). Follows links_now later it.led.last d) (sym e) (this-follows b f clock links_now after h it)
+      follows-at c low (inr ne) = other-follows b c after clock links_now it.led it.shown.sized (it.bags c ne) (places c ne) ne (p.follows c low)

@@ -1,0 +1,10 @@
+pub mod Sane
+pub mod Links
+pub mod Rooms
+pub mod Led
+pub mod Plays
+pub mod Holds
+pub mod Moves
+pub mod Heard
+pub mod Images
+pub mod Pasts

@@ -1,0 +1,4 @@
+pub mod InstPlaces
+pub mod Plays
+pub mod Sane
+pub mod Steps
