@@ -1,6 +1,7 @@
 -- What an instance has that has ended.
-use Rattle.std.specs.Prelude.{if◌then◌else◌, false, [], map, None, replicate}
+use Rattle.std.specs.Prelude.{ℕ, if◌then◌else◌, false, [], map, None, replicate}
 use Rattle.buffer_cache.specs.Cache.{empty_cache}
+use Rattle.redo_thread.specs.Thread.{ThreadState}
 use Rattle.undo_segment.specs.Dirty.{all_clean}
 use Rattle.resource_dir.specs.Directory.{no_buckets}
 use Rattle.inst_state.specs.declared.inst.Begun.{Begun}
@@ -41,6 +42,10 @@ lost_leading = record {
   recovering = record { epoch = 0; threads = []; versions = []; rebuilt = [] };
 }
 
+-- The redo thread of an instance that has ended: what is on the disk stays, and what waited is lost.
+abbrev pub lost_thread : ℕ → ThreadState → ThreadState
+lost_thread me thread = record { number = me; durable = thread.durable; waiting = []; durable_scn = 0; newest_scn = 0 }
+
 -- The part of an instance that has ended: what it had in memory is lost, and of its segment nothing is dirty. Its clock, its
 -- thread and its segment are made anew as it comes up again.
 abbrev pub lost : Inst → Inst
@@ -49,6 +54,7 @@ lost n = record n {
   paused = false;
   made = [];
   ends = [];
+  thread = lost_thread n.plan.me n.thread;
   segment = all_clean n.segment;
   cache = empty_cache n.plan.frames n.plan.blocks;
   mastering = lost_mastering n.mastering;

@@ -10,6 +10,7 @@ use crate::refusals::tell_refusals;
 use base_types::{InstNo, NoMemory};
 use buffer_cache::BufferCache;
 use inst_state::{Core, Inst, Life, Recovery};
+use redo_thread::RedoThread;
 use std::alloc::Global;
 
 // What it had in memory is lost.
@@ -17,10 +18,12 @@ fn clear(alloc: Global, inst: &mut Inst) -> Result<(), NoMemory>
     ensures { OnOk result (inst.new ≡ lost inst.old) }
 {
     let cache = BufferCache::new(alloc, inst.plan.frames, inst.plan.blocks)?;
+    let thread = RedoThread::new(alloc, inst.plan.me, inst.thread.durable())?;
     inst.life = Life::Down;
     inst.paused = false;
     inst.made.clear();
     inst.ends.clear();
+    inst.thread = thread;
     inst.segment.forget_dirty();
     inst.cache = cache;
     lose_mastering(&mut inst.mastering);

@@ -1,4 +1,5 @@
 pub mod Allowed
 pub mod Choices
+pub mod Made
 pub mod Moves
 pub mod Needs

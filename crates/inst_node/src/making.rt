@@ -1,7 +1,9 @@
 //! A step is made.
 
-ghost use Rattle.std.specs.Prelude.{◌≡◌, true, IfOk, OnOk};
-ghost use Rattle.inst_node.specs.Moves.{BlockDisk, DiskAfter, DiskOf, InstDisk, LineDisk, PlainDisk, SessionDisk, block_core, block_part, core_after, core_of, dead_core, dead_part, inst_core, inst_part, line_core, line_part, part_after, part_of, plain_core, plain_part, session_core, session_part};
+ghost use Rattle.std.specs.Prelude.{◌≡◌, true, IfOk, IfSome, OnOk};
+ghost use Rattle.redo_record.specs.Redo.{IsRedo};
+ghost use Rattle.inst_node.specs.Made.{dead_record, record_made, session_record};
+ghost use Rattle.inst_node.specs.Moves.{BlockDisk, DiskAfter, DiskOf, InstDisk, LineDisk, PlainDisk, SessionDisk, block_core, block_part, core_after, core_of, dead_core, dead_part, inst_core, inst_part, line_core, line_part, part_after, part_of, plain_core, plain_part, prepared, session_core, session_part};
 ghost use Rattle.inst_node.specs.Needs.{BlockMay, DeadMay, InstMay, LineMay, PlainMay, ReadyMay, SessionMay, needs};
 
 use crate::actions::{Action, BlockStep, DeadStep, InstStep, LineStep, PlainStep, SessionStep};
@@ -38,6 +40,7 @@ fn make_for_session<D: SharedDisk>(
     ensures part { IfOk result (λ how. inst.new ≡ session_part inst.old core.old kind session how) }
     ensures core { IfOk result (λ how. core.new ≡ session_core inst.old core.old kind session how) }
     ensures disk { IfOk result (λ how. SessionDisk inst.old core.old kind session how (D.state disk.old) (D.state disk.new)) }
+    ensures record { OnOk result (IfSome (session_record inst.old kind session) IsRedo) }
 {
     match kind {
         SessionStep::StartStmt => start(alloc, inst, session, &mut core.journal)?,
@@ -66,6 +69,7 @@ fn make_for_dead(
     requires { DeadMay inst.old kind job }
     ensures part { OnOk result (inst.new ≡ dead_part inst.old kind) }
     ensures core { OnOk result (core.new ≡ dead_core inst.old core.old kind) }
+    ensures record { OnOk result (IfSome (dead_record inst.old kind) IsRedo) }
 {
     match kind {
         DeadStep::Mark => mark_dead(inst, job, &mut core.journal),
@@ -210,6 +214,7 @@ fn make_ready<D: SharedDisk>(
     ensures part { IfOk result (λ how. inst.new ≡ part_of inst.old core.old action.now how) }
     ensures core { IfOk result (λ how. core.new ≡ core_of inst.old core.old action.now how) }
     ensures disk { IfOk result (λ how. DiskOf inst.old core.old action.now how (D.state disk.old) (D.state disk.new)) }
+    ensures record { OnOk result (IfSome (record_made inst.old action.now) IsRedo) }
 {
     match action {
         Action::Session(kind, session) => {
@@ -243,6 +248,7 @@ pub fn make<D: SharedDisk>(
     ensures part { IfOk result (λ how. inst.new ≡ part_after inst.old core.old action.now how) }
     ensures core { IfOk result (λ how. core.new ≡ core_after inst.old core.old action.now how) }
     ensures disk { IfOk result (λ how. DiskAfter inst.old core.old action.now how (D.state disk.old) (D.state disk.new)) }
+    ensures record { OnOk result (IfSome (record_made (prepared inst.old core.old action.now) action.now) IsRedo) }
 {
     let me = inst.plan.me;
     prepare(alloc, inst, core, action)?;

@@ -41,7 +41,9 @@ use Rattle.report_steps.specs.Report.{given, reported, reported_core}
 use Rattle.rebuild_steps.specs.Images.{LoadsImage, bytes_of, rolled_from}
 use Rattle.rebuild_steps.specs.Recover.{RebuildsAs, Rewrites, WritesAs, WritesMade, noted, noted_core, recovered_core, redo_read, recovered as recover}
 use Rattle.inst_node.specs.Moves.{BlockDisk, RecoveredAs, SessionDisk, telling, asked_undo_of, block_part, closing_of, crashed_of, dead_part, forced_of, found_of, inst_part, installed_of, joined_by, line_part, plain_part, recovered_by, session_part, thawed_by, written_of, block_core, dead_core, inst_core, joined_core_by, line_core, plain_core, recovered_core_by, session_core, thawed_core_by, InstDisk, JoinedAs, LineDisk, PlainDisk, ThawedAs}
-use Rattle.log_laws.specs.Sound.{record_in, record_made, IsBehindRecord}
+use Rattle.log_laws.specs.Sound.{IsBehindRecord}
+use Rattle.inst_node.specs.Made.{record_made}
+use Rattle.stmt_steps.specs.Change.{record_in}
 use Rattle.log_laws.proofs.Cluster.{AtOwn, Files, Logs, Own as OwnPart, ReadOf, Shared, own_of, shared_of, left as left_shared, lost_own, open_in}
 use Rattle.log_laws.proofs.Keeps.{Keeps, MayRecord, Untouched, held, records, rests, stops, untouched_block, untouched_kept, untouched_same, untouched_then}
 use Rattle.log_laws.proofs.Moves.{own_moved, no_way}

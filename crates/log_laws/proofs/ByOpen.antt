@@ -188,7 +188,6 @@ runs_if core may dark = phase_running core.members.phase (by (is_running core.me
 pub record JoinMay (n : Inst) (core : Core) : Type 0 where
   pub gone : is_live core n.plan.me ≡ false
   pub opens : is_open_to_joins core ≡ true
-  pub fresh : is_dark core.members.phase ≡ true → n.thread.waiting ≡ []
 
 join_dark : (n : Inst) (core : Core) (number : ℕ) (old new : State) → JoinMay n core → is_dark core.members.phase ≡ true → new ≡ old
     → Keeps n (joined n core number joined.Dark) core (joined_core n core number joined.Dark) old new
@@ -200,7 +199,7 @@ join_dark n core number old new may dark e owns i at small holds =
     let few = few_insts s owns f i (own_of n) h.2 at in
     finish (joined n core number joined.Dark) (joined_core n core number joined.Dark) owns i new.told h.0 (come_shared (record s { former = with_inst s.former i }) i) (record (own_of n) { up = false }) f
     (ap (λ (x : State). x.told) e ∙ h.1) (ap (λ (t : ℕ). come_shared (record s { former = with_inst s.former t }) t) me) refl refl
-    (inst_came_dark s f owns i (own_of n) h.2 at few.1 small (phase_dark core.members.phase dark) (may.fresh dark))
+    (inst_came_dark s f owns i (own_of n) h.2 at few.1 small (phase_dark core.members.phase dark))
 
 join_whole : (n : Inst) (core : Core) (owns : List OwnPart) (i : ℕ) (f : Files) → slice_get owns i ≡ Some (own_of n) → Logs (shared_of core) owns f → JoinMay n core
     → core.members.phase ≡ phase.Running → (has core.members.live i ≡ false) × IsWhole (log_in f i)
@@ -355,7 +354,7 @@ own_empty : (s : Shared) (f : Files) (i : ℕ) (o : OwnPart) (len : ℕ) → AtO
 own_empty s f i o len here shut = record {
   names = (here.names.0, here.names.0);
   log = λ op. absurd (no_way (open_in s i) op shut);
-  idle = λ cl. (let was = here.idle cl in record { up = was.up; none = was.none; empty = λ l. refl });
+  idle = λ cl. (let was = here.idle cl in record { up = was.up; none = was.none; empty = refl });
   epoch = here.epoch;
   reads = here.reads;
 }

@@ -17,6 +17,7 @@ use Rattle.inst_state.specs.declared.inst.Inst.{Inst}
 use Rattle.inst_state.specs.declared.inst.ReadThread.{ReadThread}
 use Rattle.inst_state.specs.declared.shared.Core.{Core}
 use Rattle.inst_state.specs.State.{is_up}
+use Rattle.inst_loss.specs.Lost.{lost_thread}
 use Rattle.log_history.specs.Logs.{IsRight}
 use Rattle.log_laws.specs.Logs.{IsWhole}
 
@@ -88,7 +89,7 @@ put_control f t bytes = record f { controls = slice_set f.controls t bytes }
 
 -- what an instance has that has ended
 abbrev pub lost_own : Own → Own
-lost_own o = record { me = o.me; thread = o.thread; up = false; adopts = 0; epoch = 0; reads = [] }
+lost_own o = record { me = o.me; thread = lost_thread o.me o.thread; up = false; adopts = 0; epoch = 0; reads = [] }
 
 -- the membership once an instance isn't live any more
 abbrev pub left : Shared → ℕ → Shared
@@ -150,10 +151,10 @@ pub record LogOf (log : List ℕ) (i : ℕ) (thread : ThreadState) : Type 0 wher
   pub short : length log + length thread.waiting < 2 ^ 63
 
 -- An instance whose thread isn't open does nothing that makes redo.
-pub record Idle (live : Bool) (o : Own) : Type 0 where
+pub record Idle (o : Own) : Type 0 where
   pub up : o.up ≡ false
   pub none : o.adopts ≡ 0
-  pub empty : live ≡ true → o.thread.waiting ≡ []
+  pub empty : o.thread.waiting ≡ []
 
 -- A thread was read up to the end of a record, unless it is open again.
 abbrev pub ReadOf : Shared → Files → ReadThread → Type 0
@@ -163,7 +164,7 @@ ReadOf s f r = (r.behind < 256 ^ 8) × (open_in s r.thread ≡ false → IsWhole
 pub record AtOwn (s : Shared) (f : Files) (i : ℕ) (o : Own) : Type 0 where
   pub names : (o.me ≡ i) × (o.thread.number ≡ i)
   pub log : open_in s i ≡ true → LogOf (log_in f i) i o.thread
-  pub idle : open_in s i ≡ false → Idle (has s.live i) o
+  pub idle : open_in s i ≡ false → Idle o
   pub epoch : o.epoch ≤ s.epoch
   pub reads : o.epoch ≡ s.epoch → AllByRecursion (ReadOf s f) o.reads
 

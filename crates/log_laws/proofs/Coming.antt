@@ -169,9 +169,9 @@ inst_joined s f owns i o up logs there within few small running gone entry =
 
 -- an instance comes in with nobody live: its former thread is to be closed
 pub inst_came_dark : (s : Shared) (f : Files) (owns : List Own) (i : ℕ) (o : Own) → Logs s owns f → slice_get owns i ≡ Some o → i < 8
-    → IsSmall (next_epoch s.epoch) → s.phase ≡ phase.Dark → o.thread.waiting ≡ []
+    → IsSmall (next_epoch s.epoch) → s.phase ≡ phase.Dark
     → Logs (come (record s { former = with_inst s.former i }) i) (slice_set owns i (record o { up = false })) f
-inst_came_dark s f owns i o logs there few small dark stale =
+inst_came_dark s f owns i o logs there few small dark =
     moved s now f f owns i (record o { up = false }) logs refl members logs.sizes
     (λ t small2. thread_on s now f f t refl refl (same_open t (cases_eq t i)) (λ k. k) (logs.threads t small2)) own
     (λ j x apart was. other_on s now f f j x (λ op. refl) (same_open j (inr apart)) (has_other s.live i j apart) (inr (epoch_up s.epoch small)) was)
@@ -228,7 +228,7 @@ inst_came_dark s f owns i o logs there few small dark stale =
     own = record {
       names = at.names;
       log = λ op. absurd (no_way (open_in now i) op shut);
-      idle = λ cl. record { up = refl; none = (at.idle (was_shut i)).none; empty = λ l. stale };
+      idle = λ cl. record { up = refl; none = (at.idle (was_shut i)).none; empty = (at.idle (was_shut i)).empty };
       epoch = (let a = at.epoch in let b = epoch_up s.epoch small in omega (arith, a, b));
       reads = reads_on s now f f o.epoch o.reads (inr (epoch_up s.epoch small)) at.epoch at.reads;
     }

@@ -45,7 +45,8 @@ use Rattle.inst_node.specs.declared.actions.SessionStep.TheVariants as session
 use Rattle.inst_node.specs.Allowed.{is_allowed, is_frozen_before_report, kind_class, runs}
 use Rattle.inst_node.specs.Moves.{comes_after_thaw, counted, prepared, prepared_if}
 use Rattle.inst_node.specs.Needs.{action_needs, dead_needs, inst_needs, is_by_line, line_needs, needs, plain_needs, session_needs}
-use Rattle.log_laws.specs.Sound.{IsSound, record_made}
+use Rattle.log_laws.specs.Sound.{IsSound}
+use Rattle.inst_node.specs.Made.{record_made}
 use Rattle.log_laws.proofs.ByKind.{CanRecord, LineMay, MayMakeRedo, PlainMay, ThreadMay}
 use Rattle.log_laws.proofs.ByOpen.{ThawMay}
 use Rattle.log_laws.proofs.ByThread.{dead_shut}
@@ -231,7 +232,7 @@ line_may n core line.Join number told may sound =
     let a = (and_parts (is_allowed n core (Line line.Join number)) (may_join n core number) may).1 in
     let b = and_parts (asks_start n.plan.me (open_control core number) && not (is_live core n.plan.me)) (is_open_to_joins core) a in
     let c = and_parts (asks_start n.plan.me (open_control core number)) (not (is_live core n.plan.me)) b.0 in
-    record { gone = not_true (is_live core n.plan.me) c.1; opens = b.1; fresh = sound.fresh }
+    record { gone = not_true (is_live core n.plan.me) c.1; opens = b.1 }
 line_may n core line.SendBucket number told may sound = tt
 line_may n core line.KeepBucket number told may sound = tt
 line_may n core line.Skip number told may sound = tt

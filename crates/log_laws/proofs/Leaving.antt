@@ -43,7 +43,7 @@ log_forced s f owns i o logs there few live =
     size = length-append (log_in f i) o.thread.waiting
 
     idle_same : open_in s i ≡ false → bytes ≡ log_in f i
-    idle_same cl = ap (λ (x : List ℕ). log_in f i ++ x) ((at.idle cl).empty live) ∙ append-nil (log_in f i)
+    idle_same cl = ap (λ (x : List ℕ). log_in f i ++ x) (at.idle cl).empty ∙ append-nil (log_in f i)
 
     grown : open_in s i ≡ true → Thread bytes (control_in f i) (open_in s i) (known_in s i)
     grown op = let was = at.log op in record {
@@ -92,7 +92,7 @@ log_forced s f owns i o logs there few live =
         whole = same_whole bytes (log_in g i ++ []) (sym (append-nil (log_in g i) ∙ is)) was.whole;
         short = (let h = was.short in let e = ap length is in omega (arith, h, size, e));
       });
-      idle = λ cl. (let was = at.idle cl in record { up = was.up; none = was.none; empty = λ l. refl });
+      idle = λ cl. (let was = at.idle cl in record { up = was.up; none = was.none; empty = refl });
       epoch = at.epoch;
       reads = reads_on s s f g o.epoch o.reads (inl (refl, reads)) at.epoch at.reads;
     }
@@ -194,7 +194,7 @@ left_thread s f i o log at old (inr it) = by (open_in s i) refl
     by : (b : Bool) → open_in s i ≡ b → Thread log (control_in f i) false (known_in s i)
     by true op = subst (λ (b : List ℕ). Thread b (control_in f i) false (known_in s i)) (sym it.1.1) (spilled_thread s f i it.1.0 o at op old)
     by false cl =
-        let none : take it.1.0 o.thread.waiting ≡ [] = take_none it.1.0 o.thread.waiting ((at.idle cl).empty it.0) in
+        let none : take it.1.0 o.thread.waiting ≡ [] = take_none it.1.0 o.thread.waiting (at.idle cl).empty in
         let same : log ≡ log_in f i = it.1.1 ∙ ap (λ (x : List ℕ). log_in f i ++ x) none ∙ append-nil (log_in f i) in
         subst (λ (b : List ℕ). Thread b (control_in f i) false (known_in s i)) (sym same) (closed_thread (log_in f i) (control_in f i) (open_in s i) (known_in s i) old)
 
@@ -225,9 +225,9 @@ inst_left s f g owns i o logs there few small sizes controls others spills =
 
     own : AtOwn now g i (lost_own o)
     own = record {
-      names = (logs.each i o there).names;
+      names = (let me = (logs.each i o there).names.0 in (me, me));
       log = λ op. absurd (no_way (open_in now i) op shut);
-      idle = λ cl. record { up = refl; none = refl; empty = λ l. absurd (no_way (has now.live i) l (has_without s.live i)) };
+      idle = λ cl. record { up = refl; none = refl; empty = refl };
       epoch = omega arith;
       reads = λ e. tt;
     }

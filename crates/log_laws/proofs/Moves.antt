@@ -57,7 +57,7 @@ other_on s now f g j o logs opened live reads at = record {
     whole = same_whole (log_in f j ++ o.thread.waiting) (log_in g j ++ o.thread.waiting) (ap (λ (x : List ℕ). x ++ o.thread.waiting) (sym log)) was.whole;
     short = (let e : length (log_in g j) ≡ length (log_in f j) = ap length log in let h = was.short in omega (arith, e, h));
   });
-  idle = λ cl. (let was = at.idle (sym opened ∙ cl) in record { up = was.up; none = was.none; empty = λ l. was.empty (sym live ∙ l) });
+  idle = λ cl. at.idle (sym opened ∙ cl);
   epoch = (let a = at.epoch in let b = epoch_on s now f g reads in omega (arith, a, b));
   reads = reads_on s now f g o.epoch o.reads reads at.epoch at.reads;
 }

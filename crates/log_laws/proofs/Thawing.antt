@@ -167,7 +167,7 @@ own_kept s f i o p at me thread idle epoch reads = record {
   idle = λ cl. record {
     up = (idle cl).0;
     none = (idle cl).1;
-    empty = λ l. ap (λ (x : ThreadState). x.waiting) thread ∙ (at.idle cl).empty l;
+    empty = ap (λ (x : ThreadState). x.waiting) thread ∙ (at.idle cl).empty;
   };
   epoch = epoch;
   reads = reads;

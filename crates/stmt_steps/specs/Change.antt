@@ -163,6 +163,11 @@ decision_tells n z _ = []
 abbrev pub change_tells : Inst → ℕ → List Entry
 change_tells n z = decision_tells n z (change_decided n z)
 
+-- the record that a decision is to make, if it is to make one
+abbrev pub record_in : Option Decision → Option Redo
+record_in (Some (Do redo)) = Some redo
+record_in _ = None
+
 -- A record can be applied to the segment and to the current image of a block.
 pub record FitsInst (n : Inst) (block : ℕ) (redo : Redo) : Type 0 where
   pub segment : FitsSegment n.segment redo

@@ -2,6 +2,7 @@
 
 ghost use Rattle.std.specs.Prelude.{◌≡◌, ◌∷◌, ◌++◌, ◌-◌, [], true, false, None, Some, IfSome, OnOk, slice_index_or, slice_set};
 ghost use Rattle.std.specs.Option.{ForSome, option_copied};
+ghost use Rattle.redo_record.specs.Redo.{IsRedo};
 ghost use Rattle.inst_state.specs.Needs.{dead_needed, dead_segment};
 ghost use Rattle.inst_state.specs.Sessions.{new_session};
 ghost use Rattle.inst_state.specs.State.{has_room, session_at};
@@ -67,6 +68,7 @@ pub fn step_back(inst: &mut Inst, session: u16, journal: &mut Journal) -> Result
     requires { may_step_back inst.old session ≡ true }
     ensures part { OnOk result (inst.new ≡ stepped_back inst.old session) }
     ensures tells { OnOk result (journal.new ≡ back_tells inst.old session ++ journal.old) }
+    ensures record { OnOk result (IfSome (record_of (back_decided inst.old session)) IsRedo) }
 {
     match back_decided(inst, session) {
         Some(Some(redo)) => {
@@ -157,6 +159,7 @@ pub fn step_back_dead(inst: &mut Inst, _job: u64, journal: &mut Journal) -> Resu
     requires { may_step_back_dead inst.old _job ≡ true }
     ensures part { OnOk result (inst.new ≡ dead_stepped_back inst.old) }
     ensures tells { OnOk result (journal.new ≡ dead_back_tells inst.old ++ journal.old) }
+    ensures record { OnOk result (IfSome (record_of (dead_back_decided inst.old)) IsRedo) }
 {
     match dead_back_decided(inst) {
         Some(Some(redo)) => {

@@ -2,12 +2,13 @@
 
 ghost use Rattle.std.specs.Prelude.{◌≡◌, ◌∷◌, ◌++◌, [], true, slice_set, slice_index_or, OnOk, IfOk};
 ghost use Rattle.std.specs.Option.{ForSome, option_copied};
+ghost use Rattle.redo_record.specs.Redo.{IsRedo};
 ghost use Rattle.redo_thread.specs.Thread.{end_of};
 ghost use Rattle.txn_engine.specs.Parts.{FitsImage, FitsSegment};
 ghost use Rattle.buffer_cache.specs.Cache.{place_at};
 ghost use Rattle.inst_state.specs.Sessions.{new_session};
 ghost use Rattle.inst_state.specs.State.{asks_at, has_room, session_at, stmt_at};
-ghost use Rattle.stmt_steps.specs.Change.{FitsInst, IfFits, applying, ask_of, block_at, cache_changed, change_decided, change_tells, changed, changed_by, decided_of, decided_on, found_by, is_decided, line_restarted, lock_found, may_change, new_by, record_tells, restarted, row_changed, row_of};
+ghost use Rattle.stmt_steps.specs.Change.{FitsInst, IfFits, applying, ask_of, block_at, cache_changed, change_decided, change_tells, changed, changed_by, decided_of, decided_on, found_by, is_decided, line_restarted, lock_found, may_change, new_by, record_in, record_tells, restarted, row_changed, row_of};
 
 use crate::visits::refuse;
 use base_types::{BlockNo, NoMemory, RedoAt, RowNo, Scn, Value, Xid};
@@ -274,6 +275,7 @@ pub fn change(inst: &mut Inst, session: u16, journal: &mut Journal) -> Result<()
     requires { may_change inst.old session ≡ true }
     ensures part { OnOk result (inst.new ≡ changed inst.old session) }
     ensures tells { OnOk result (journal.new ≡ change_tells inst.old session ++ journal.old) }
+    ensures record { OnOk result (IfSome (record_in (change_decided inst.old session)) IsRedo) }
 {
     let Some(decision) = change_decided(inst, session) else {
         return Ok(());

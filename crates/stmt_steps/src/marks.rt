@@ -154,6 +154,7 @@ pub fn mark(inst: &mut Inst, session: u16, journal: &mut Journal) -> Result<(), 
     requires { may_mark inst.old session ≡ true }
     ensures part { OnOk result (inst.new ≡ marked inst.old session) }
     ensures tells { OnOk result (journal.new ≡ mark_tells inst.old session ++ journal.old) }
+    ensures record { OnOk result (IfSome (end_decided inst.old session) IsRedo) }
 {
     let z = usize::from(session);
     let commit = commits(&end_kind(inst, z));
@@ -259,6 +260,7 @@ pub fn mark_dead(inst: &mut Inst, _job: u64, journal: &mut Journal) -> Result<()
     requires { may_mark_dead inst.old _job ≡ true }
     ensures part { OnOk result (inst.new ≡ dead_marked inst.old) }
     ensures tells { OnOk result (journal.new ≡ dead_mark_tells inst.old ++ journal.old) }
+    ensures record { OnOk result (IfSome (dead_end_decided inst.old) IsRedo) }
 {
     match dead_end_decided(inst) {
         Some(redo) => make_dead_end(inst, &redo, journal),

@@ -1,6 +1,8 @@
-ghost use Rattle.std.specs.Prelude.{◌≡◌, ◌<◌, ◌≤◌, ◌+◌, ◌++◌, ◌∷◌, [], true, IfOk, OnOk, length, slice_get, slice_set};
+ghost use Rattle.std.specs.Prelude.{◌≡◌, ◌<◌, ◌≤◌, ◌+◌, ◌++◌, ◌∷◌, [], true, IfOk, IfSome, OnOk, length, slice_get, slice_set};
 ghost use Rattle.std.specs.Option.{ForSome};
-ghost use Rattle.inst_node.specs.Moves.{DiskAfter, core_after, part_after};
+ghost use Rattle.redo_record.specs.Redo.{IsRedo};
+ghost use Rattle.inst_node.specs.Made.{record_made};
+ghost use Rattle.inst_node.specs.Moves.{DiskAfter, core_after, part_after, prepared};
 ghost use Rattle.inst_node.specs.Needs.{needs};
 ghost use Rattle.world_machine.specs.Enabled.{crash_or, due_from, enabled_from};
 
@@ -72,6 +74,7 @@ impl Insts {
         ensures insts { IfOk result (λ how. ForSome (slice_get self.old at) (λ n. self.new ≡ slice_set self.old at (part_after n core.old action.now how))) }
         ensures core { IfOk result (λ how. ForSome (slice_get self.old at) (λ n. core.new ≡ core_after n core.old action.now how)) }
         ensures disk { IfOk result (λ how. ForSome (slice_get self.old at) (λ n. DiskAfter n core.old action.now how (D.state disk.old) (D.state disk.new))) }
+        ensures record { OnOk result (ForSome (slice_get self.old at) (λ n. IfSome (record_made (prepared n core.old action.now) action.now) IsRedo)) }
     {
         let inst = &mut self.items[at];
         make(alloc, inst, core, disk, action)
