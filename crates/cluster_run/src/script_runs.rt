@@ -13,7 +13,7 @@ use first_state::{Created, create, layout_of};
 use rac_disk::SharedDisk;
 use script_text::Script;
 use std::alloc::Global;
-use world_machine::{Book, Ran, World, run};
+use world_machine::{Book, Observer, Ran, World, run};
 
 /// How a run came to its end.
 #[derive(Clone, Copy, Debug, PartialEq, Eq)]
@@ -64,11 +64,12 @@ fn finish_of(limit: u64, world: &World, book: &Book) -> Finish
 }
 
 // Runs a script from its first world on.
-fn run_world<D: SharedDisk>(
+fn run_world<D: SharedDisk, O: Observer>(
     alloc: Global,
     script: &Script,
     first: World,
     disk: &mut D,
+    observer: &mut O,
 ) -> Result<ClusterRun, NoMemory>
     requires { IsFirstWorld script.now first }
     ensures { IfOk result (λ it. IsRunOf script.now it (D.state disk.old) (D.state disk.new)) }
@@ -76,7 +77,8 @@ fn run_world<D: SharedDisk>(
     let limit = step_limit(script);
     let seed = script.settings().seed;
     let mut world = first;
-    let ran = run(alloc, &mut world, seed, limit, disk)?;
+    let ran = run(alloc, &mut world, seed, limit, disk, observer)?;
+    observer.end(script, &world)?;
     let finish = finish_of(limit, &world, &ran.book);
     Ok(ClusterRun { world, ran, finish })
 }
@@ -90,22 +92,25 @@ fn create_for<D: SharedDisk>(script: &Script, disk: &mut D) -> Created
 }
 
 /// Makes the database anew and runs the script over it, to the end of its last wave, until no step may be made, or for the
-/// most steps of a run. The disk is touched only once there is memory for the first world.
+/// most steps of a run, each of which the observer sees before it is made. The disk is touched only once there is memory
+/// for the first world.
 ///
 /// # Errors
 ///
-/// There is no memory for the first world, or for what a step notes, sends or tells, or for the book.
-pub fn run_script<D: SharedDisk>(
+/// There is no memory for the first world, or for what a step notes, sends or tells, for the book, or for what the observer
+/// notes.
+pub fn run_script<D: SharedDisk, O: Observer>(
     alloc: Global,
     script: &Script,
     disk: &mut D,
+    observer: &mut O,
 ) -> Result<ScriptRun, NoMemory>
     requires { IsWellFormed script.now }
     ensures { IfOk result (λ it. RunsScript script.now it (D.state disk.old) (D.state disk.new)) }
 {
     let first = first_world(alloc, script)?;
     match create_for(script, disk) {
-        Created::Whole => Ok(ScriptRun::Ran(run_world(alloc, script, first, disk)?)),
+        Created::Whole => Ok(ScriptRun::Ran(run_world(alloc, script, first, disk, observer)?)),
         Created::Failed => Ok(ScriptRun::NotCreated),
     }
 }

@@ -25,6 +25,7 @@ use rac_disk::SharedDisk;
 use rac_io::{Sink, Source};
 use script_text::Script;
 use std::alloc::Global;
+use world_machine::Nobody;
 
 /// The exit of a run that ends so.
 fn exit_of(run: ClusterRun, end: End) -> Exit
@@ -113,7 +114,7 @@ pub fn run<S: Source, K: Sink, D: SharedDisk>(
         Err(end) => return Exit::without_run(alloc, end),
     };
     let before = failures_of(disk);
-    match run_script(alloc, &script, disk) {
+    match run_script(alloc, &script, disk, &mut Nobody) {
         Ok(ScriptRun::Ran(run)) => {
             let failed = have_risen(before, failures_of(disk));
             tell_run(alloc, options, &script, run, failed, sink)

@@ -3,9 +3,11 @@
 #![tactic(auto)]
 
 mod insts;
+mod observers;
 mod runs;
 mod worlds;
 
 pub use insts::Insts;
+pub use observers::{Nobody, Observer};
 pub use runs::{Book, Ran, run};
 pub use worlds::World;

@@ -2,6 +2,7 @@ ghost use Rattle.std.specs.Prelude.{◌≡◌, ◌⊎◌, [], length, IfOk, IfSo
 ghost use Rattle.world_machine.specs.Machine.{W};
 ghost use Rattle.world_machine.specs.Runs.{IsPicked, IsRun, IsStuck, words};
 
+use crate::observers::Observer;
 use crate::worlds::World;
 use base_types::{NoMemory, Sequence};
 use inst_node::Step;
@@ -31,12 +32,13 @@ fn pick(alloc: Global, world: &World, words: &mut Lcg64Xsh32) -> Result<Option<S
     Ok(Some(steps[word % steps.len()]))
 }
 
-// Makes the step that is picked; `None` where none may be made.
-fn turn<D: SharedDisk>(
+// Makes the step that is picked, which the observer sees before; `None` where none may be made.
+fn turn<D: SharedDisk, O: Observer>(
     alloc: Global,
     world: &mut World,
     words: &mut Lcg64Xsh32,
     disk: &mut D,
+    observer: &mut O,
 ) -> Result<Option<Step>, NoMemory>
     ensures turns { IfOk result (λ step. IfSome step (λ step. IsPicked words.old world.old step words.new × W world.old (D.state disk.old) step world.new (D.state disk.new))) }
     ensures none { IfOk result (λ step. IfNone step (IsStuck world.old × (words.new ≡ words.old) × (world.new ≡ world.old) × (D.state disk.new ≡ D.state disk.old))) }
@@ -44,6 +46,7 @@ fn turn<D: SharedDisk>(
     let Some(step) = pick(alloc, world, words)? else {
         return Ok(None);
     };
+    observer.see(world, &step)?;
     world.step(alloc, &step, disk)?;
     Ok(Some(step))
 }
@@ -56,17 +59,18 @@ pub struct Ran {
 }
 
 /// Makes steps, each the first due crash or else the one that the next word picks, until none may be made or so many were
-/// made.
+/// made. The observer sees each before it is made.
 ///
 /// # Errors
 ///
-/// There is no memory for what a step notes, sends or tells, or for the book.
-pub fn run<D: SharedDisk>(
+/// There is no memory for what a step notes, sends or tells, for the book, or for what the observer notes.
+pub fn run<D: SharedDisk, O: Observer>(
     alloc: Global,
     world: &mut World,
     seed: u64,
     limit: u64,
     disk: &mut D,
+    observer: &mut O,
 ) -> Result<Ran, NoMemory>
     ensures run { IfOk result (λ ran. IsRun (words seed) world.old (D.state disk.old) ran.book ran.words world.new (D.state disk.new)) }
     ensures ends { IfOk result (λ ran. IsStuck world.new ⊎ (length ran.book ≡ limit)) }
@@ -74,7 +78,7 @@ pub fn run<D: SharedDisk>(
     let mut words = Lcg64Xsh32::new(seed, 1);
     let mut book = Sequence::new(alloc);
     for _made in 0..limit {
-        match turn(alloc, world, &mut words, disk)? {
+        match turn(alloc, world, &mut words, disk, observer)? {
             Some(step) => book.push(step)?,
             None => return Ok(Ran { book, words }),
         }
