@@ -53,6 +53,7 @@ use Rattle.inst_node.specs.Moves.{comes_after_thaw, prepared, prepared_if}
 use Rattle.inst_node.specs.Allowed.{kind_class}
 use Rattle.end_laws.proofs.Did.{Keeps, keeps, keeps_then, Restores, restored}
 use Rattle.end_laws.proofs.Stakes.{awaited_in, awaited_of, stake_at, stake_of, with_stakes}
+use Rattle.run_laws.proofs.Looks.{open_looks}
 
 pub map_same : (f : Session → Session) → ((s : Session) → stake_of (f s) ≡ stake_of s) → (l : List Session) → map stake_of (map f l) ≡ map stake_of l
 map_same f same [] = refl
@@ -135,19 +136,9 @@ taken_keeps n (Some packet) =
 pub report_restores : (n : Inst) → Restores n (reported n)
 report_restores n = record { plan = refl; ends = refl; stakes = map_same without_hand (λ s. refl) n.sessions; seg = λ is. is }
 
-opened_stakes : (up : Bool) (wave : ℕ) (sessions : List Session) (opening : Opening) (b : Bool)
-    → map stake_of (if b then slice_set sessions opening.session (opened up (slice_index_or sessions opening.session new_session)) else sessions) ≡ map stake_of sessions
-opened_stakes up wave sessions opening true = map-set_same stake_of sessions opening.session (opened up (slice_index_or sessions opening.session new_session)) new_session refl
-opened_stakes up wave sessions opening false = refl
-
-open_stakes : (up : Bool) (wave : ℕ) (sessions : List Session) (openings : List Opening) → map stake_of (fold (opened_if up wave) sessions openings) ≡ map stake_of sessions
-open_stakes up wave sessions [] = refl
-open_stakes up wave sessions (opening ∷ openings) =
-    open_stakes up wave (opened_if up wave sessions opening) openings ∙ opened_stakes up wave sessions opening (opening.wave == wave)
-
 pub entered_keeps : (n : Inst) (core : Core) → Keeps n (entered n core)
 entered_keeps n core =
-    record { same = ap (with_stakes n) (open_stakes (is_up n.life) core.waves.wave n.sessions n.plan.openings); clock = le_refl n.clock.scn }
+    record { same = ap (with_stakes n) (open_looks stake_of (is_up n.life) core.waves.wave n.sessions n.plan.openings (λ s. refl)); clock = le_refl n.clock.scn }
 
 thread_restores : (n : Inst) (scns : Clock) (how : Opened) → Restores n (thread_opened n scns how)
 thread_restores n scns (thread.Running length) = record { plan = refl; ends = refl; stakes = refl; seg = λ is. is }

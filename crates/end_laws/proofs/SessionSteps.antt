@@ -43,6 +43,7 @@ use Rattle.run_laws.specs.Tells.{acked_tells}
 use Rattle.end_laws.proofs.Did.{Did, Sets, Stills, acks, changes, goes, keeps, marks, rests, steps}
 use Rattle.end_laws.proofs.Parts.{with_keeps}
 use Rattle.end_laws.proofs.Stakes.{Stake, awaited_in, awaited_of, stake_at, stake_of, with_stakes}
+use Rattle.line_laws.proofs.Moving.{hand_runs}
 
 -- a line that hasn't started, or sees up to a snapshot, waits for no end
 idle_waits : (d : Doing) → is_idle d ≡ true → awaited_in d ≡ None
@@ -54,20 +55,6 @@ pub runs_waits : (d : Doing) → is_some (snapshot_of d) ≡ true → awaited_in
 runs_waits (Runs snapshot) e = refl
 runs_waits Idle e = refl
 runs_waits (Ends ending) e = absurd (let no : false ≡ true = e in cc)
-
-on_by : (stops : Bool) (d : Doing) → (if stops then false else is_some (snapshot_of d)) ≡ true → is_some (snapshot_of d) ≡ true
-on_by true d e = absurd (let no : false ≡ true = e in cc)
-on_by false d e = e
-
-needed_runs : (n : Inst) (z : ℕ) (b : Bool) (x : Needed) → goes_on n z ≡ b → (if b then needed_by n z (asks_at n z) else None) ≡ Some x
-    → is_some (snapshot_of (session_at n z).doing) ≡ true
-needed_runs n z true x on e = on_by (n.paused || is_stopped n z) (session_at n z).doing on
-needed_runs n z false x on e = absurd (none-some x e)
-
-hand_runs : (n : Inst) (z : ℕ) (o : Option Needed) (image : BlockContent) → needed n z ≡ o → option_and_then (image_for n z) o ≡ Some image
-    → is_some (snapshot_of (session_at n z).doing) ≡ true
-hand_runs n z None image is e = absurd (none-some image e)
-hand_runs n z (Some x) image is e = needed_runs n z (goes_on n z) x refl is
 
 -- a session whose line has an image in hand waits for no end
 in_hand_waits : (n : Inst) (z : ℕ) (image : BlockContent) → image_in_hand n z ≡ Some image → (stake_at n z).awaits ≡ None

@@ -15,6 +15,7 @@ use Rattle.inst_state.specs.declared.session.Ending.{Ending}
 use Rattle.inst_state.specs.declared.session.Session.{Session}
 use Rattle.inst_state.specs.Sessions.{new_session}
 use Rattle.inst_state.specs.State.{session_at, stmt_at}
+use Rattle.run_laws.proofs.Looks.{look_is, other_look, same_look, set_look}
 use Rattle.line_laws.proofs.Courses.{lines_in}
 use Rattle.line_laws.proofs.Losses.{next_stmt}
 use Rattle.line_laws.proofs.ScriptLines.{stmt_no}
@@ -50,23 +51,16 @@ abbrev pub stakes : Inst → List Stake
 stakes n = map stake_of n.sessions
 
 pub stake_is : (n : Inst) (z : ℕ) → get_or (stakes n) z (stake_of new_session) ≡ stake_at n z
-stake_is n z = get_or-map stake_of n.sessions z new_session
+stake_is n z = look_is stake_of n z
 
 pub same_stake : (n m : Inst) (z : ℕ) → stakes m ≡ stakes n → stake_at m z ≡ stake_at n z
-same_stake n m z e =
-    sym (stake_is m z) ∙ ap (λ (l : List Stake). get_or l z (stake_of new_session)) e ∙ stake_is n z
+same_stake n m z e = same_look stake_of n m z e
 
 pub set_stake : (n m : Inst) (z : ℕ) (s : Stake) → stakes m ≡ slice_set (stakes n) z s → z < length n.sessions → stake_at m z ≡ s
-set_stake n m z s e within =
-    let len : length (stakes n) ≡ length n.sessions = length-map n.sessions stake_of in
-    sym (stake_is m z) ∙ ap (λ (l : List Stake). get_or l z (stake_of new_session)) e
-    ∙ get_or-set_same (stakes n) z s (stake_of new_session) (omega arith)
+set_stake n m z s e within = set_look stake_of n m z s e within
 
 pub other_stake : (n m : Inst) (z : ℕ) (s : Stake) (y : ℕ) → stakes m ≡ slice_set (stakes n) z s → (y ≡ z → ⊥) → stake_at m y ≡ stake_at n y
-other_stake n m z s y e apart =
-    sym (stake_is m y) ∙ ap (λ (l : List Stake). get_or l y (stake_of new_session)) e
-    ∙ get_or-set_other (stakes n) z y s (stake_of new_session) apart
-    ∙ stake_is n y
+other_stake n m z s y e apart = other_look stake_of n m z s y e apart
 
 -- what an instance has of its transactions, where its sessions have these stakes
 pub record Ledger : Type 0 where

@@ -9,6 +9,7 @@ use Rattle.inst_state.specs.declared.line.Line.{Line}
 use Rattle.inst_state.specs.declared.plan.Plan.{Plan}
 use Rattle.inst_state.specs.declared.session.Session.{Session}
 use Rattle.inst_state.specs.Sessions.{is_idle, new_session}
+use Rattle.run_laws.proofs.Looks.{other_look, same_look, set_look}
 use Rattle.inst_state.specs.State.{in_wave, line_at, line_now, session_at}
 
 -- how far a session has come: its next line, and whether that hasn't started
@@ -50,24 +51,14 @@ item_at (x ∷ xs) (suc z) k = item_at xs z k
 pub line_is : (n : Inst) (z : ℕ) → line_at n z ≡ slice_get (lines_in n.plan z) (course_at n z).next
 line_is n z = item_at n.plan.lines z (session_at n z).next
 
-course_is : (n : Inst) (z : ℕ) → get_or (courses n) z (course_of new_session) ≡ course_at n z
-course_is n z = get_or-map course_of n.sessions z new_session
-
 pub same_course : (n m : Inst) (z : ℕ) → courses m ≡ courses n → course_at m z ≡ course_at n z
-same_course n m z e =
-    sym (course_is m z) ∙ ap (λ (l : List Course). get_or l z (course_of new_session)) e ∙ course_is n z
+same_course n m z e = same_look course_of n m z e
 
 pub set_course : (n m : Inst) (z : ℕ) (c : Course) → courses m ≡ slice_set (courses n) z c → z < length n.sessions → course_at m z ≡ c
-set_course n m z c e within =
-    let len : length (courses n) ≡ length n.sessions = length-map n.sessions course_of in
-    sym (course_is m z) ∙ ap (λ (l : List Course). get_or l z (course_of new_session)) e
-    ∙ get_or-set_same (courses n) z c (course_of new_session) (omega arith)
+set_course n m z c e within = set_look course_of n m z c e within
 
 pub other_course : (n m : Inst) (z : ℕ) (c : Course) (y : ℕ) → courses m ≡ slice_set (courses n) z c → (y ≡ z → ⊥) → course_at m y ≡ course_at n y
-other_course n m z c y e apart =
-    sym (course_is m y) ∙ ap (λ (l : List Course). get_or l y (course_of new_session)) e
-    ∙ get_or-set_other (courses n) z y c (course_of new_session) apart
-    ∙ course_is n y
+other_course n m z c y e apart = other_look course_of n m z c y e apart
 
 pub same_count : (n m : Inst) → courses m ≡ courses n → length m.sessions ≡ length n.sessions
 same_count n m e = sym (length-map m.sessions course_of) ∙ ap length e ∙ length-map n.sessions course_of

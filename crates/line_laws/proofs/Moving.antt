@@ -65,7 +65,7 @@ needed_runs : (n : Inst) (z : ℕ) (b : Bool) (x : Needed) → goes_on n z ≡ b
 needed_runs n z true x on e = on_by (n.paused || is_stopped n z) (session_at n z).doing on
 needed_runs n z false x on e = absurd (none-some x e)
 
-hand_runs : (n : Inst) (z : ℕ) (o : Option Needed) (image : BlockContent) → needed n z ≡ o → option_and_then (image_for n z) o ≡ Some image
+pub hand_runs : (n : Inst) (z : ℕ) (o : Option Needed) (image : BlockContent) → needed n z ≡ o → option_and_then (image_for n z) o ≡ Some image
     → is_some (snapshot_of (session_at n z).doing) ≡ true
 hand_runs n z None image is e = absurd (none-some image e)
 hand_runs n z (Some x) image is e = needed_runs n z (goes_on n z) x refl is

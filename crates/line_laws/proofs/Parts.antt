@@ -49,6 +49,7 @@ use Rattle.inst_node.specs.Moves.{comes_after_thaw, prepared, prepared_if}
 use Rattle.inst_node.specs.Allowed.{kind_class}
 use Rattle.line_laws.proofs.Courses.{Course, course_at, course_of}
 use Rattle.line_laws.proofs.Took.{stays, Stays, stays_then}
+use Rattle.run_laws.proofs.Looks.{open_looks}
 
 pub map_stays : (f : Session → Session) → ((s : Session) → course_of (f s) ≡ course_of s) → (l : List Session) → map course_of (map f l) ≡ map course_of l
 map_stays f same [] = refl
@@ -139,19 +140,9 @@ taken_stays n (Some packet) =
 pub report_stays : (n : Inst) → Stays n (reported n)
 report_stays n = record { plan = refl; course = map_stays without_hand (λ s. refl) n.sessions }
 
-opened_courses : (up : Bool) (wave : ℕ) (sessions : List Session) (opening : Opening) (b : Bool)
-    → map course_of (if b then slice_set sessions opening.session (opened up (slice_index_or sessions opening.session new_session)) else sessions) ≡ map course_of sessions
-opened_courses up wave sessions opening true = map-set_same course_of sessions opening.session (opened up (slice_index_or sessions opening.session new_session)) new_session refl
-opened_courses up wave sessions opening false = refl
-
-open_courses : (up : Bool) (wave : ℕ) (sessions : List Session) (openings : List Opening) → map course_of (fold (opened_if up wave) sessions openings) ≡ map course_of sessions
-open_courses up wave sessions [] = refl
-open_courses up wave sessions (opening ∷ openings) =
-    open_courses up wave (opened_if up wave sessions opening) openings ∙ opened_courses up wave sessions opening (opening.wave == wave)
-
 pub entered_stays : (n : Inst) (core : Core) → Stays n (entered n core)
 entered_stays n core =
-    record { plan = refl; course = open_courses (is_up n.life) core.waves.wave n.sessions n.plan.openings }
+    record { plan = refl; course = open_looks course_of (is_up n.life) core.waves.wave n.sessions n.plan.openings (λ s. refl) }
 
 disk_course_as : (next : ℕ) (doing : Doing) → course next (with_end_on_disk doing) ≡ course next doing
 disk_course_as next (Ends ending) = refl

@@ -82,7 +82,7 @@ number_later k v w true from le = omega (arith, from, le)
 number_later k v w false from le = le
 
 -- the wave that has a line is at most the line's
-number_below : (z n w k : ℕ) (waves : List (List (ℕ × Item))) → HasLine n w (session_lines z (enumerate_from k waves)) → wave_number n k waves ≤ w
+pub number_below : (z n w k : ℕ) (waves : List (List (ℕ × Item))) → HasLine n w (session_lines z (enumerate_from k waves)) → wave_number n k waves ≤ w
 number_below z n w k [] h = absurd h
 number_below z n w k (wave ∷ more) h =
     by (λ later. number_below z n w (k + 1) more later) (line_split n w (wave_lines z (k, wave)) (session_lines z (enumerate_from (k + 1) more)) h)

@@ -4,6 +4,7 @@ pub mod EndLists
 pub mod EndSteps
 pub mod EndsByKind
 pub mod Folds
+pub mod Looks
 pub mod Losses
 pub mod Named
 pub mod NamedByKind

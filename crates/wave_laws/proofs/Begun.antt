@@ -34,7 +34,7 @@ use Rattle.line_laws.proofs.Kept.{start_there, Standing}
 use Rattle.line_laws.proofs.Losses.{next_stmt}
 use Rattle.line_laws.proofs.Places.{elsewhere, here, Home, home}
 use Rattle.line_laws.proofs.ScriptLines.{HasLine, line_at_place, line_in_wave, line_split, stmt_no, wave_no, wave_of}
-use Rattle.line_laws.proofs.Timely.{number_from, number_here, number_later, wave_number}
+use Rattle.line_laws.proofs.Timely.{number_below, number_from, number_here, number_later, wave_number}
 use Rattle.line_laws.proofs.Took.{MayStart, Stays, Took}
 use Rattle.line_laws.proofs.Took.{answers as took_answers, loses as took_loses, opens as took_opens, rests as took_rests, starts as took_starts}
 use Rattle.wave_laws.proofs.Items.{Stands, stands_joined}
@@ -148,19 +148,6 @@ may_wave n wave z is (inl was) = is.busy z was
 may_wave n wave z is (inr now) =
     let same : wave_no (lines_in n.plan z) (course_at n z).next ≡ n.wave.entered = ap wave_of (sym (line_is n z)) ∙ now_wave n.wave.entered (line_at n z) now in
     let le = is.entered in omega (arith, same, le)
-
--- the wave that has a line is at most the line's
-number_below : (z n w k : ℕ) (waves : List (List (ℕ × Item))) → HasLine n w (session_lines z (enumerate_from k waves)) → wave_number n k waves ≤ w
-number_below z n w k [] h = absurd h
-number_below z n w k (wave ∷ more) h =
-    by (λ later. number_below z n w (k + 1) more later) (line_split n w (wave_lines z (k, wave)) (session_lines z (enumerate_from (k + 1) more)) h)
-  where
-    by : (HasLine n w (session_lines z (enumerate_from (k + 1) more)) → wave_number n (k + 1) more ≤ w)
-        → HasLine n w (wave_lines z (k, wave)) ⊎ HasLine n w (session_lines z (enumerate_from (k + 1) more)) → wave_number n k (wave ∷ more) ≤ w
-    by rest (inl a) =
-        let is = line_in_wave (turn_of z (k, wave)) wave n w a in
-        number_here k (wave_number n (k + 1) more) w (list_any (λ line. line.0 == n) wave) is.0 is.1
-    by rest (inr b) = number_later k (wave_number n (k + 1) more) w (list_any (λ line. line.0 == n) wave) (number_from n (k + 1) more) (rest b)
 
 -- a session's next line that may start, or has started, is of a wave up to the current one
 line_told : (script : ScriptParts) (k : Inst) (i wave : ℕ) (past : Past) (z : ℕ) → parts_of k.plan ≡ first_plan script i → Standing script k past → IsIn wave k
