@@ -90,28 +90,31 @@ struct Undo {
 
 const NONE: (Xid, u8) = (UNUSED, 0);
 
-fn undo_block(rt: &impl Abort, undo: &Undo) -> UndoBlock {
+// The first undo block of a segment with these records.
+fn undo_block(rt: &impl Abort, records: &[Undo]) -> UndoBlock {
     let mut bytes = [0; 512];
-    let seg = undo.xid.seg.get();
     bytes[..2].copy_from_slice(&[3, 1]);
-    bytes[3] = 5 + 3 * (seg % 8);
-    bytes[4] = seg;
     bytes[15] = 1;
     bytes[23] = 1;
-    let at = 32 + 96 * (usize::from(undo.seq.saturating_sub(1)) % 4);
-    bytes[at + 7] = undo.seq;
-    bytes[at + 9] = undo.itl;
-    bytes[at + 10] = undo.row;
-    bytes[at + 15] = low(undo.xid.wrap);
-    bytes[at + 31] = undo.version;
-    let (before, seq) = undo.before;
-    bytes[at + 40] = before.seg.get();
-    bytes[at + 47] = low(before.wrap);
-    bytes[at + 55] = seq;
-    bytes[at + 56] = u8::from(undo.old != 0);
-    bytes[at + 71] = undo.old;
+    for undo in records {
+        let seg = undo.xid.seg.get();
+        bytes[3] = 5 + 3 * (seg % 8);
+        bytes[4] = seg;
+        let at = 32 + 96 * (usize::from(undo.seq.saturating_sub(1)) % 4);
+        bytes[at + 7] = undo.seq;
+        bytes[at + 9] = undo.itl;
+        bytes[at + 10] = undo.row;
+        bytes[at + 15] = low(undo.xid.wrap);
+        bytes[at + 31] = undo.version;
+        let (before, seq) = undo.before;
+        bytes[at + 40] = before.seg.get();
+        bytes[at + 47] = low(before.wrap);
+        bytes[at + 55] = seq;
+        bytes[at + 56] = u8::from(undo.old != 0);
+        bytes[at + 71] = undo.old;
+    }
     let Ok(block) = UndoBlock::read(&bytes) else {
-        panic!(rt; "the undo block of segment {seg} is refused");
+        panic!(rt; "an undo block is refused");
     };
     block
 }
@@ -230,8 +233,8 @@ fn later_commits_are_taken_back_newest_first(rt: HostRuntime) -> Result<(), Fail
     let slots = [(AT_12, 1), (AT_15, 1), NONE, NONE];
     let image = block(&rt, &slots, &[(3, 2), (0, 0), (0, 0), (0, 0)]);
     let mut handed = headers(&rt, alloc)?;
-    handed.add_block(undo_block(&rt, &undo_of(AT_12, 1, 0, 3, NONE, 1)))?;
-    handed.add_block(undo_block(&rt, &undo_of(AT_15, 2, 0, 5, NONE, 2)))?;
+    handed.add_block(undo_block(&rt, &[undo_of(AT_12, 1, 0, 3, NONE, 1)]))?;
+    handed.add_block(undo_block(&rt, &[undo_of(AT_15, 2, 0, 5, NONE, 2)]))?;
     expect(&rt, &image, &handed, alloc, 15, &None, &rows(3, 0, 0))?;
     expect(&rt, &image, &handed, alloc, 14, &None, &rows(2, 0, 0))?;
     expect(&rt, &image, &handed, alloc, 11, &None, &rows(1, 0, 0))?;
@@ -244,8 +247,8 @@ fn a_slot_is_given_back_to_whom_it_was_taken_from(rt: HostRuntime) -> Result<(),
     let slots = [(AT_15, 1), NONE, NONE, NONE];
     let image = block(&rt, &slots, &[(2, 0), (5, 1), (0, 0), (0, 0)]);
     let mut handed = headers(&rt, alloc)?;
-    handed.add_block(undo_block(&rt, &undo_of(AT_15, 1, 1, 5, (AT_8, 1), 4)))?;
-    handed.add_block(undo_block(&rt, &undo_of(AT_8, 1, 0, 3, NONE, 1)))?;
+    handed.add_block(undo_block(&rt, &[undo_of(AT_15, 1, 1, 5, (AT_8, 1), 4)]))?;
+    handed.add_block(undo_block(&rt, &[undo_of(AT_8, 1, 0, 3, NONE, 1)]))?;
     expect(&rt, &image, &handed, alloc, 10, &None, &rows(2, 4, 0))?;
     expect(&rt, &image, &handed, alloc, 7, &None, &rows(1, 4, 0))?;
     Ok(())
@@ -255,11 +258,14 @@ fn a_slot_is_given_back_to_whom_it_was_taken_from(rt: HostRuntime) -> Result<(),
 fn own_rows_are_shown(rt: HostRuntime) -> Result<(), Fail> {
     let alloc = rt.alloc();
     // the open transaction changed row 0 over one that ended at 8, and locks row 2
-    let slots = [(AT_8, 1), (OPEN, 1), (AT_15, 1), NONE];
+    let slots = [(AT_8, 1), (OPEN, 2), (AT_15, 1), NONE];
     let image = block(&rt, &slots, &[(3, 2), (6, 3), (7, 2), (0, 0)]);
     let mut handed = headers(&rt, alloc)?;
-    handed.add_block(undo_block(&rt, &undo_of(OPEN, 2, 0, 4, NONE, 2)))?;
-    handed.add_block(undo_block(&rt, &undo_of(AT_15, 3, 1, 5, NONE, 5)))?;
+    let changed = undo_of(OPEN, 2, 0, 3, NONE, 2);
+    let mut locked = undo_of(OPEN, 2, 2, 4, (OPEN, 1), 7);
+    locked.seq = 2;
+    handed.add_block(undo_block(&rt, &[changed, locked]))?;
+    handed.add_block(undo_block(&rt, &[undo_of(AT_15, 3, 1, 5, NONE, 5)]))?;
     expect(&rt, &image, &handed, alloc, 10, &Some(OPEN), &rows(3, 5, 7))?;
     expect(&rt, &image, &handed, alloc, 10, &None, &rows(2, 5, 7))?;
 
@@ -267,7 +273,7 @@ fn own_rows_are_shown(rt: HostRuntime) -> Result<(), Fail> {
     let slots = [(OPEN, 1), NONE, NONE, NONE];
     let image = block(&rt, &slots, &[(7, 1), (0, 0), (0, 0), (0, 0)]);
     let mut handed = headers(&rt, alloc)?;
-    handed.add_block(undo_block(&rt, &undo_of(OPEN, 1, 0, 5, NONE, 7)))?;
+    handed.add_block(undo_block(&rt, &[undo_of(OPEN, 1, 0, 5, NONE, 7)]))?;
     expect(&rt, &image, &handed, alloc, 10, &Some(OPEN), &rows(7, 0, 0))?;
     expect(&rt, &image, &handed, alloc, 10, &None, &rows(7, 0, 0))?;
     Ok(())
@@ -299,7 +305,7 @@ fn copies_are_too_old(rt: HostRuntime) -> Result<(), Fail> {
     let mut handed = headers(&rt, alloc)?;
     let mut later = undo_of(AT_12, 1, 0, 3, NONE, 1);
     later.seq = 10;
-    handed.add_block(undo_block(&rt, &later))?;
+    handed.add_block(undo_block(&rt, &[later]))?;
     let image = block(&rt, &[(AT_12, 2), NONE, NONE, NONE], &CLEAR);
     let reused = Made::TooOld(Cause::OldUndo {
         xid: AT_12,
@@ -323,10 +329,10 @@ fn what_no_run_leaves_is_bad(rt: HostRuntime) -> Result<(), Fail> {
     let alloc = rt.alloc();
     let image = block(&rt, &[(AT_12, 1), NONE, NONE, NONE], &CLEAR);
     // the undo record of another ITL slot, one of a later version, and block versions that don't fall
-    let other_slot = undo_block(&rt, &undo_of(AT_12, 2, 0, 3, NONE, 1));
-    let later_version = undo_block(&rt, &undo_of(AT_12, 1, 0, 6, NONE, 1));
-    let before = undo_block(&rt, &undo_of(AT_15, 1, 0, 3, NONE, 1));
-    let same_version = undo_block(&rt, &undo_of(AT_12, 1, 0, 3, (AT_15, 1), 1));
+    let other_slot = undo_block(&rt, &[undo_of(AT_12, 2, 0, 3, NONE, 1)]);
+    let later_version = undo_block(&rt, &[undo_of(AT_12, 1, 0, 6, NONE, 1)]);
+    let before = undo_block(&rt, &[undo_of(AT_15, 1, 0, 3, NONE, 1)]);
+    let same_version = undo_block(&rt, &[undo_of(AT_12, 1, 0, 3, (AT_15, 1), 1)]);
     let mut handed = headers(&rt, alloc)?;
     handed.add_block(other_slot)?;
     expect(&rt, &image, &handed, alloc, 10, &None, &Made::Bad)?;

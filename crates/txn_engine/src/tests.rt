@@ -287,10 +287,109 @@ const BACK: Redo = Redo {
     }),
 };
 
+// The record by which the first transaction commits once it has put 42.
+const COMMIT: Redo = Redo {
+    kind: RedoKind::Commit,
+    xid: OWN,
+    scn: Scn(2),
+    seq: 0,
+    head: HeadChange {
+        block: BlockNo(3),
+        version: 2,
+        slot: 0,
+        next: 2,
+        to: TxnSlot {
+            wrap: 1,
+            state: TxnState::Committed,
+            first: 0,
+            last: 0,
+            scn: Scn(2),
+            prev: Scn(0),
+        },
+    },
+    undo: None,
+    row: None,
+};
+
+const OWN_FIRST: ItlSlot = ItlSlot { xid: OWN, seq: 1 };
+
+const OWN_SECOND: ItlSlot = ItlSlot { xid: OWN, seq: 2 };
+
+// What a record of the first transaction makes of row 3 by ITL slot 1.
+const fn row_of(version: u64, lock: u8, fresh: bool, slot: ItlSlot, value: Value) -> DataChange {
+    DataChange {
+        block: BlockNo(0),
+        version,
+        to: RowChange {
+            row: 3,
+            lock,
+            itl: 1,
+            fresh,
+            slot,
+            value,
+        },
+    }
+}
+
+// The undo record of what the first transaction does to row 3 second, over a value.
+fn second_undo(old: Value) -> UndoChange {
+    UndoChange {
+        block: BlockNo(4),
+        version: 2,
+        place: 1,
+        to: UndoRecord {
+            seq: 2,
+            slot: 0,
+            itl: 1,
+            row: 3,
+            mine: true,
+            wrap: 1,
+            block: BlockNo(0),
+            version: 2,
+            prev: 1,
+            old_itl: OWN_FIRST,
+            old,
+        },
+    }
+}
+
+#[test]
+fn changes_a_row_that_it_locked(rt: HostRuntime) -> Result<(), Fail> {
+    let mut bench = Bench::new(rt.alloc(), 0)?;
+    let put = Wish::Put(Value::Num(42));
+    assert_eq!(rt; bench.make(Wish::Lock, 3, None), Some(OWN));
+    assert_eq!(rt;
+        bench.decide(put, 3, Some(OWN)),
+        Decision::Do(Redo {
+            undo: Some(second_undo(Value::Absent)),
+            row: Some(row_of(2, 1, false, OWN_SECOND, Value::Num(42))),
+            ..SECOND
+        })
+    );
+    assert_eq!(rt; bench.make(put, 3, Some(OWN)), Some(OWN));
+    // it holds the row still, as before the change
+    assert_eq!(rt;
+        bench.back(&OWN),
+        Some(Redo {
+            row: Some(row_of(3, 1, false, OWN_FIRST, Value::Absent)),
+            ..BACK
+        })
+    );
+    Ok(())
+}
+
 #[test]
 fn changes_a_row_and_takes_it_back(rt: HostRuntime) -> Result<(), Fail> {
     let mut bench = Bench::new(rt.alloc(), 0)?;
     let own = OWN;
+    assert_eq!(rt;
+        bench.decide(Wish::Lock, 3, None),
+        Decision::Do(Redo {
+            kind: RedoKind::Lock,
+            row: Some(row_of(1, 1, true, OWN_FIRST, Value::Absent)),
+            ..FIRST
+        })
+    );
     assert_eq!(rt;
         bench.decide(Wish::Put(Value::Num(42)), 3, None),
         Decision::Do(FIRST)
@@ -304,6 +403,15 @@ fn changes_a_row_and_takes_it_back(rt: HostRuntime) -> Result<(), Fail> {
         bench.decide(Wish::Add(1), 3, Some(OWN)),
         Decision::Do(SECOND)
     );
+    assert_eq!(rt;
+        bench.decide(Wish::Del, 3, Some(OWN)),
+        Decision::Do(Redo {
+            row: Some(row_of(2, 1, false, OWN_SECOND, Value::Absent)),
+            ..SECOND
+        })
+    );
+    let commit = decide_end(&own, EndKind::Commit, &bench.segment, &bench.clock);
+    assert_eq!(rt; commit, Some(COMMIT));
     assert_eq!(rt; bench.make(Wish::Add(1), 3, Some(OWN)), Some(OWN));
     assert_eq!(rt;
         block_to_take_back(&own, &bench.segment),
@@ -463,6 +571,16 @@ fn needs_the_header_of_another_segment(rt: HostRuntime) -> Result<(), Fail> {
     assert_eq!(rt;
         bench.decide(Wish::Del, 5, None),
         Decision::Refuse(Cause::Busy { xid: THEIRS })
+    );
+    // it ended at 2, which another instance knows to be on the disk by the header that it sent
+    assert!(rt; other.end(&THEIRS, EndKind::Commit));
+    let mut later = Bench::new(rt.alloc(), 0)?;
+    later.image = other.image.copy();
+    later.clock = other.clock;
+    later.handed.add_head(other.segment.header().copy())?;
+    assert_eq!(rt;
+        later.decide_at(Wish::Del, 5, None, Scn(1), Scn(1)),
+        Decision::Restart(Scn(2))
     );
     // a row that nobody locked, which is free since the block's SCN or before
     let zero = Scn(0);

@@ -375,6 +375,12 @@ fn a_wrong_header_is_not_loaded(rt: HostRuntime) -> Result<(), Fail> {
         &undo,
         Some((4, 3)),
     )?;
+    let mut late = head_bytes(&rt, 4, 1, 10, &slot);
+    late[8] = 0x40;
+    expect_load(&rt, rt.alloc(), &late, &undo, Some((4, 5)))?;
+    let mut late = head_bytes(&rt, 4, 1, 10, &slot);
+    late[16] = 0x40;
+    expect_load(&rt, rt.alloc(), &late, &undo, Some((4, 6)))?;
     expect_load(
         &rt,
         rt.alloc(),
