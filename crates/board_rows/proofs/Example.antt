@@ -3,7 +3,7 @@
 -- a commit record and a put that a crash loses, a rollback of what was kept, and the lost put's transaction anew.
 use Rattle.std.proofs.Common.{◌≡◌, ℕ, true, false, List, [], ◌∷◌, refl, arith, Option, Some, pos}
 use Rattle.std.proofs.lemmas.Bool.{false≢true}
-use Rattle.board_rows.proofs.Words.{Xid, Absent, Num, Entry, Opened, Started, Rows, Changed, Locked, Marked, Committed, Acked, Undone, Rolled, Crashed, Ended, Up, Deed, Changes, Locks, Range, Record, Does, TakesBack, Commits, RollsBack, DeedAt, Board, Event, Crash, Fault, after, nothing, Leads, MayTell}
+use Rattle.board_rows.proofs.Words.{Xid, Absent, Num, Entry, Opened, Started, Rows, Changed, Locked, Marked, Committed, Acked, Undone, Rolled, Crashed, Ended, Up, Moved, Deed, Changes, Locks, Range, Record, Does, TakesBack, Commits, RollsBack, DeedAt, Board, Event, Crash, Fault, after, nothing, Leads, MayTell}
 use Rattle.board_rows.specs.Events
 
 asked : ℕ → Option Range
@@ -61,6 +61,7 @@ events =
     ∷ Events.starts 4 1 1 0 0
     ∷ Events.changes 4 1 2 y 1 second_deed
     ∷ Events.settles [] (Does 3 y 1 second_deed) old
+    ∷ Events.notes (Moved 8)
     ∷ Events.loses 1 3 (Crash 9)
     ∷ Events.takes_back 0 y 1 0 0
     ∷ Events.rolls 0 y
@@ -77,7 +78,7 @@ events =
 
 run : Leads asked 2 nothing events (ends_at nothing events)
 unfolding asked
-run = (grind arith, (grind arith, (grind arith, (grind arith, (grind arith, (refl, (grind arith, (grind arith, (omega arith, (tt, (omega arith, (grind arith, (grind arith, (grind arith, (grind arith, (grind arith, (grind arith, (grind arith, (grind arith, (grind arith, (record { may = (refl, λ e. absurd (false≢true e)); taken = m; rest = []; newest = refl; number = refl; place = refl; stays = λ e. refl }, (grind arith, (grind arith, (grind arith, (grind arith, (grind arith, (grind arith, (grind arith, (grind arith, (grind arith, (grind arith, refl)))))))))))))))))))))))))))))))
+run = (grind arith, (grind arith, (grind arith, (grind arith, (grind arith, (record { opened = refl }, (grind arith, (grind arith, (record { low = omega arith }, (tt, (record { low = omega arith }, (grind arith, (grind arith, (grind arith, (grind arith, (grind arith, (grind arith, (grind arith, (grind arith, (tt, (grind arith, (record { may = (refl, λ e. absurd (false≢true e)); taken = m; rest = []; newest = refl; number = refl; place = refl; stays = λ e. refl }, (grind arith, (grind arith, (grind arith, (grind arith, (grind arith, (grind arith, (grind arith, (grind arith, (grind arith, (grind arith, refl))))))))))))))))))))))))))))))))
 
 -- what it tells, the newest entry first
 abbrev journal : List Entry
@@ -89,6 +90,7 @@ journal =
     ∷ Rolled y
     ∷ Undone y 0
     ∷ Crashed 9 1
+    ∷ Moved 8
     ∷ Changed 4 y 0 (Num (pos 5)) (Num (pos 7))
     ∷ Started 4 1 2
     ∷ Rows 3 ((0, Num (pos 5)) ∷ [])
@@ -148,7 +150,7 @@ losing =
 
 run-losing : Leads asked 2 nothing losing (ends_at nothing losing)
 unfolding asked
-run-losing = (grind arith, (grind arith, (grind arith, (grind arith, (grind arith, (grind arith, (grind arith, (grind arith, (refl, (grind arith, (grind arith, (record { may = (refl, λ e. absurd (false≢true e)); taken = first_mod; rest = []; newest = refl; number = refl; place = refl; stays = λ e. refl }, (grind arith, (grind arith, (grind arith, (grind arith, (grind arith, (grind arith, (grind arith, (grind arith, (grind arith, (grind arith, (grind arith, (grind arith, (grind arith, (grind arith, (grind arith, refl)))))))))))))))))))))))))))
+run-losing = (grind arith, (grind arith, (grind arith, (grind arith, (grind arith, (grind arith, (grind arith, (grind arith, (record { opened = refl }, (grind arith, (grind arith, (record { may = (refl, λ e. absurd (false≢true e)); taken = first_mod; rest = []; newest = refl; number = refl; place = refl; stays = λ e. refl }, (grind arith, (grind arith, (grind arith, (grind arith, (grind arith, (grind arith, (grind arith, (grind arith, (grind arith, (grind arith, (grind arith, (grind arith, (grind arith, (grind arith, (grind arith, refl)))))))))))))))))))))))))))
 
 abbrev journal-losing : List Entry
 journal-losing =

@@ -16,11 +16,11 @@ module _ (asked : ℕ → Option Range) (insts : ℕ) where
   pub keeps : (b : Board) (e : Event) → May asked insts b e → Sound asked insts b → Sound asked insts (after b e)
   keeps b (Events.opens z i) may sound = keeps-opens asked insts b sound z i may
   keeps b (Events.starts n z i e first) may sound = keeps-starts asked insts b sound n z i e first may
-  keeps b (Events.learns i e) may sound = keeps-learns asked insts b sound i e may
+  keeps b (Events.learns i e) may sound = keeps-learns asked insts b sound i e may.low
   keeps b (Events.raises i c) may sound = keeps-raises asked insts b sound i c
   keeps b (Events.changes n z s x seq deed) may sound = keeps-changes asked insts b sound n z s x seq deed may
   keeps b (Events.takes_back i x seq row left) may sound = keeps-takes_back asked insts b sound i x seq row left may
-  keeps b (Events.marks n x) may sound = keeps-marks asked insts b sound n x may
+  keeps b (Events.marks n x) may sound = keeps-marks asked insts b sound n x may.opened
   keeps b (Events.rolls i x) may sound = keeps-rolls asked insts b sound i x may
   keeps b (Events.settles newer r there) may sound = keeps-settles asked insts b sound newer r there may
   keeps b (Events.reads z i k newer there status) may sound = keeps-reads asked insts b sound z i k newer there status may

@@ -54,6 +54,7 @@ abbrev pub without : Xid → ℕ → ℕ → List DeedAt → List DeedAt
 without xid seq row [] = []
 without xid seq row (m ∷ deeds) = if is_that xid seq row m then deeds else m ∷ without xid seq row deeds
 
+-- a record adds the deed that it makes, and takes away the one that it steps back over
 abbrev pub stands_after : Record → List DeedAt → List DeedAt
 stands_after (Does scn xid seq deed) deeds = record { xid = xid; seq = seq; scn = scn; deed = deed } ∷ deeds
 stands_after (TakesBack inst scn xid seq row) deeds = without xid seq row deeds

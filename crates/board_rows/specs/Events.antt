@@ -91,6 +91,10 @@ pub record MayStart (board : Board) (session inst least : ℕ) : Type 0 where
   pub stays : came_up session board.past ≡ false  -- and hasn't come up since the session was opened
   pub low : least ≤ board.clock inst  -- the SCN asked for is one that the clock has reached
 
+-- An instance knows of commits up to an SCN.
+pub record MayLearn (board : Board) (inst least : ℕ) : Type 0 where
+  pub low : least ≤ board.clock inst  -- it is one that its clock has reached
+
 -- A row is looked at for a session on an instance, at a snapshot. The image is the content of its block after the
 -- records `there`, and `status` is what headers told of who has committed up to the snapshot.
 pub record MayLook (board : Board) (session inst snapshot row : ℕ) (newer there : List Record) (status : Xid → Bool) : Type 0 where
@@ -140,6 +144,10 @@ pub record MayChange (board : Board) (stmt session snapshot : ℕ) (xid : Xid) (
 -- a transaction that has no end is ended by its own instance while it is open, and by any once its instance was lost
 abbrev pub MayEnd : Board → ℕ → Xid → Type 0
 MayEnd board inst xid = (stage xid board.records ≡ Active) × (is_open xid board.past ≡ true → inst ≡ xid.seg)
+
+-- The commit record of a transaction is made.
+pub record MayMark (board : Board) (xid : Xid) : Type 0 where
+  pub opened : is_open xid board.past ≡ true  -- the transaction is open
 
 -- The newest deed of a transaction that stands is taken back.
 pub record MayTakeBack (board : Board) (inst : ℕ) (xid : Xid) (seq row left : ℕ) : Type 0 where
@@ -227,11 +235,11 @@ pub record MayUp (board : Board) (inst : ℕ) : Type 0 where
 abbrev pub May : (ℕ → Option Range) → ℕ → Board → Event → Type 0
 May asked insts board (opens session inst) = MayOpen insts board session inst
 May asked insts board (starts stmt session inst least first) = MayStart board session inst least
-May asked insts board (learns inst least) = least ≤ board.clock inst
+May asked insts board (learns inst least) = MayLearn board inst least
 May asked insts board (raises inst scn) = Unit {0}
 May asked insts board (changes stmt session snapshot xid seq deed) = MayChange board stmt session snapshot xid seq deed
 May asked insts board (takes_back inst xid seq row left) = MayTakeBack board inst xid seq row left
-May asked insts board (marks stmt xid) = is_open xid board.past ≡ true
+May asked insts board (marks stmt xid) = MayMark board xid
 May asked insts board (rolls inst xid) = MayRoll board inst xid
 May asked insts board (settles newer r there) = MaySettle board newer r there
 May asked insts board (reads session inst row newer there status) = MayRead board session inst row newer there status

@@ -10,13 +10,14 @@ recorded_in inst (Does scn xid seq deed ∷ older) =
     if inst == xid.seg then (xid, deed) ∷ recorded_in inst older else recorded_in inst older
 recorded_in inst (_ ∷ older) = recorded_in inst older
 
--- the deeds of a segment that a journal tells, the newest first
+-- the deeds of a segment, with one more entry
 abbrev pub told_after : ℕ → Entry → List (Xid × Deed) → List (Xid × Deed)
 told_after inst (Changed stmt xid row found new) before =
     if inst == xid.seg then (xid, Changes (record { row = row; found = found; new = new })) ∷ before else before
 told_after inst (Locked stmt xid row) before = if inst == xid.seg then (xid, Locks row) ∷ before else before
 told_after inst _ before = before
 
+-- the deeds of a segment that a journal tells, the newest first
 abbrev pub told_in : ℕ → Past → List (Xid × Deed)
 told_in inst [] = []
 told_in inst (e ∷ past) = told_after inst e (told_in inst past)
