@@ -1,14 +1,14 @@
 -- What the steps that call the disk for a thread leave of the logs.
-use Rattle.std.proofs.Common.{◌≡◌, ℕ, ◌^◌, ◌<◌, ◌≤◌, Bool, true, false, List, [], ◌++◌, length, take, Option, None, Some, slice_get, refl, sym, ap, subst, ◌∙◌, ◌⊎◌, inl, inr, arith}
-use Rattle.std.specs.Prelude.{IfSome, slice_set}
-use Rattle.std.proofs.lemmas.List.{append-nil, set-get_or}
+use Rattle.std.proofs.Common.{◌≡◌, ℕ, ◌^◌, ◌<◌, ◌≤◌, ◌&&◌, not, Bool, true, false, List, [], ◌++◌, length, take, Option, None, Some, slice_get, refl, sym, ap, subst, ◌∙◌, ◌⊎◌, inl, inr, arith}
+use Rattle.std.specs.Prelude.{slice_set}
+use Rattle.std.specs.List.{AllByRecursion}
+use Rattle.std.proofs.lemmas.List.{append-nil, length-append, set-get_or, take_at, take-append-le}
 use Rattle.rac_disk.specs.State.{State}
 use Rattle.redo_thread.specs.Thread.{forced as thread_forced}
 use Rattle.disk_calls.specs.Calls.{WritesControlAs, done, failed}
 use Rattle.inst_state.specs.Shared.{is_live, answering}
-use Rattle.log_laws.specs.Sound.{IsBehindRecord}
-use Rattle.log_laws.proofs.Cluster.{Files, Logs, Own as OwnPart, Shared, own_of, shared_of, EntryIs, left as left_shared, log_in, lost_own, open_in, put_control, put_log, files_of}
-use Rattle.log_laws.proofs.Keeps.{Keeps, Untouched, rests, stops, untouched_same, untouched_then, HoldsAt, and_some, few_insts, set_same, some_and}
+use Rattle.log_laws.proofs.Cluster.{AtOwn, Files, IsEndIn, LogOf, Logs, Members, Own as OwnPart, Shared, own_of, shared_of, EntryIs, left as left_shared, log_in, lost_own, open_in, put_control, put_log, files_of}
+use Rattle.log_laws.proofs.Keeps.{Keeps, Untouched, lost_is, rests, stops, untouched_same, untouched_then, HoldsAt, and_some, few_insts, set_same, some_and}
 use Rattle.log_laws.proofs.Moves.{control_put}
 use Rattle.log_laws.proofs.Quiet.{lost_shared}
 use Rattle.inst_set.specs.Sets.{has}
@@ -32,6 +32,10 @@ use Rattle.control_image.specs.declared.entry.ControlEntry.{ControlEntry}
 use Rattle.control_image.specs.declared.entry.ThreadStatus.TheVariants.{Closed, Running}
 use Rattle.control_image.specs.Entry.{entry_bytes}
 use Rattle.log_laws.specs.Logs.{IsWhole}
+use Rattle.recovery.specs.declared.members.Phase.TheVariants as phase
+use Rattle.log_laws.proofs.Bytes.{same_whole}
+use Rattle.log_laws.proofs.Coming.{no_former}
+use Rattle.log_laws.proofs.Places.{places_of, position_of, position_within}
 use Rattle.log_laws.proofs.Files.{Spilled, appended_all, asks_untouched, put_as, spilled, take_twice}
 use Rattle.log_laws.proofs.Leaving.{IsSmall, take_none, inst_spilled, inst_stopped, log_forced}
 use Rattle.inst_loss.specs.declared.ends.Loss.TheVariants as loss
@@ -113,7 +117,7 @@ pub force_keeps : (n : Inst) (core : Core) (it : Appended) (old new : State) →
     → Keeps n (forced_as n it) core (force_told n core it) old new
 force_keeps n core Whole old new live made = force_whole n core old new live made
 force_keeps n core (Cut kept) old new live made =
-    spills n (lost n) core (lost_core n core (loss.Ended false) kept) old new refl (lost_shared n core (loss.Ended false) kept) live
+    spills n (lost n) core (lost_core n core (loss.Ended false) kept) old new (lost_is n) (lost_shared n core (loss.Ended false) kept) live
     (λ number it told. spilled_then n.plan.me n.thread.waiting it made.mid new
     (subst (λ (t : ℕ). Spilled t n.thread.waiting it made.mid.told) number (spilled n.thread.number n.thread.waiting old made.mid it told made.appends))
     (asks_untouched n.plan.me kept made.mid new made.asks))
@@ -132,15 +136,15 @@ some_first t q waiting it told s =
 crash_as : (n : Inst) (core : Core) (control : Control) (it : Kept) (old new : State) → is_live core n.plan.me ≡ true → KeepsAs n.plan.me (crash_bytes n control) it old new
     → Keeps n (lost n) core (crash_told_by n core control it) old new
 crash_as n core control Nothing old new live made =
-    stops n (lost n) core (crash_told_by n core control Nothing) old new refl (lost_shared n core (loss.Crashed control.line) (Some n.thread.durable)) (untouched_same old new made.1)
+    stops n (lost n) core (crash_told_by n core control Nothing) old new (lost_is n) (lost_shared n core (loss.Crashed control.line) (Some n.thread.durable)) (untouched_same old new made.1)
 crash_as n core control (Bytes Whole) old new live made =
     let q = kept_by control.wanted (length n.thread.waiting) in
-    spills n (lost n) core (crash_told_by n core control (Bytes Whole)) old new refl (lost_shared n core (loss.Crashed control.line) (Some (kept_to n control))) live
+    spills n (lost n) core (crash_told_by n core control (Bytes Whole)) old new (lost_is n) (lost_shared n core (loss.Crashed control.line) (Some (kept_to n control))) live
     (λ number it told. (let app = appended_all n.plan.me (crash_bytes n control) old new it told made in
     record { now = app.0; tells = app.1; count = q; files = app.2 }))
 crash_as n core control (Bytes (Cut kept)) old new live made =
     let q = kept_by control.wanted (length n.thread.waiting) in
-    spills n (lost n) core (crash_told_by n core control (Bytes (Cut kept))) old new refl (lost_shared n (answering core control.line) (loss.Ended false) kept) live
+    spills n (lost n) core (crash_told_by n core control (Bytes (Cut kept))) old new (lost_is n) (lost_shared n (answering core control.line) (loss.Ended false) kept) live
     (λ number it told. some_first n.plan.me q n.thread.waiting it new.told (spilled_then n.plan.me (crash_bytes n control) it made.mid new
     (spilled n.plan.me (crash_bytes n control) old made.mid it told made.appends) (asks_untouched n.plan.me kept made.mid new made.asks)))
 
@@ -167,9 +171,34 @@ crash_keeps n core (Some control) it old new live made = crash_as n core control
 
 -- the end of a checkpoint
 
-pub check_keeps : (n : Inst) (core : Core) (number : ℕ) (it : Written) (old new : State) → IfSome old.told (IsBehindRecord n)
+-- the thread of a live instance is open where the cluster runs
+pub open_where_running : (s : Shared) (i : ℕ) → Members s → s.phase ≡ phase.Running → has s.live i ≡ true → open_in s i ≡ true
+open_where_running s i members running lives =
+    let none = no_former s members (λ e. (let no : phase.Running ≡ phase.Frozen = sym running ∙ e in absurd (cc))) i in
+    λ k. lives k && not (none k)
+
+-- the place before which recovery needs nothing is the end of a record that the disk has
+position_behind : (f : Files) (i : ℕ) (n : Inst) → LogOf (log_in f i) i n.thread → AllByRecursion (IsEndIn (log_in f i ++ n.thread.waiting)) (places_of n)
+    → IsEndIn (log_in f i) (position_now n)
+position_behind f i n log places =
+    let bytes = log_in f i ++ n.thread.waiting in
+    let durable = log.durable in
+    let size = length-append (log_in f i) n.thread.waiting in
+    let last : IsEndIn bytes n.thread.durable = record {
+      within = omega (arith, durable, size);
+      whole = same_whole (log_in f i) (take n.thread.durable bytes) (sym (take_at (log_in f i) n.thread.waiting n.thread.durable (sym durable))) log.behind;
+    } in
+    let at = position_of n (IsEndIn bytes) last places in
+    let before = position_within n in
+    let within : position_now n ≤ length (log_in f i) = omega (arith, before, durable) in
+    record {
+      within = within;
+      whole = same_whole (take (position_now n) bytes) (take (position_now n) (log_in f i)) (take-append-le (position_now n) (log_in f i) n.thread.waiting within) at.whole;
+    }
+
+pub check_keeps : (n : Inst) (core : Core) (number : ℕ) (it : Written) (old new : State) → is_live core n.plan.me ≡ true → core.members.phase ≡ phase.Running
     → WritesControlAs n.plan.me (bytes_of_entry (entry_now n)) it old new → Keeps n (checkpointed n number it) core (checkpoint_told n core number it) old new
-check_keeps n core number it old new place made owns i at small holds = by it made small
+check_keeps n core number it old new live running made owns i at small holds = by it made small
   where
     h : (c : Content) × (old.told ≡ Some c) × Logs (shared_of core) owns (files_of c)
     h = was core owns old holds
@@ -180,8 +209,11 @@ check_keeps n core number it old new place made owns i at small holds = by it ma
     f : Files
     f = files_of h.0
 
+    here : AtOwn s f i (own_of n)
+    here = h.2.each i (own_of n) at
+
     me : n.plan.me ≡ i
-    me = (h.2.each i (own_of n) at).names.0
+    me = here.names.0
 
     few : (i < s.instances) × (i < 8)
     few = few_insts s owns f i (own_of n) h.2 at
@@ -189,15 +221,15 @@ check_keeps n core number it old new place made owns i at small holds = by it ma
     bytes : List ℕ
     bytes = bytes_of_entry (entry_now n)
 
-    behind : IsBehindRecord n h.0
-    behind = subst (λ (o : Option Content). IfSome o (IsBehindRecord n)) h.1 place
+    opens : open_in s i ≡ true
+    opens = open_where_running s i h.2.members running (ap (has s.live) (sym me) ∙ live)
 
-    within : position_now n ≤ length (log_in f i)
-    within = subst (λ (t : ℕ). position_now n ≤ length (log_in f t)) me behind.within
+    behind : IsEndIn (log_in f i) (position_now n)
+    behind = position_behind f i n (here.log opens) (here.places opens)
 
     entry : EntryIs (log_in f i) bytes (open_in s i)
     entry = entry_running (log_in f i) (open_in s i) (entry_now n) bytes (bytes_are (entry_now n)) refl
-        (let short = (h.2.threads i few.1).short in omega (arith, short, within)) (subst (λ (t : ℕ). IsWhole (take (position_now n) (log_in f t))) me behind.whole) within
+        (let short = (h.2.threads i few.1).short in let within = behind.within in omega (arith, short, within)) behind.whole behind.within
 
     written_logs : Logs s owns (put_control f i bytes)
     written_logs = control_put s f owns i bytes h.2 few.1 entry
@@ -217,5 +249,5 @@ check_keeps n core number it old new place made owns i at small holds = by it ma
         let now = lost_core n core (loss.Ended false) (Some 0) in
         let is_left : shared_of now ≡ left_shared s i = lost_shared n core (loss.Ended false) (Some 0) ∙ ap (left_shared s) me in
         let epoch = ap (λ (x : Shared). x.epoch) is_left in
-        finish (lost n) now owns i new.told p.now (left_shared s i) (lost_own (own_of n)) (files_of p.now) p.tells is_left refl refl
+        finish (lost n) now owns i new.told p.now (left_shared s i) (lost_own (own_of n)) (files_of p.now) p.tells is_left (lost_is n) refl
         (inst_stopped s (files_of p.now) owns i (own_of n) (after (files_of p.now) p.files) at few.1 (subst IsSmall epoch small))

@@ -1,9 +1,9 @@
 -- What each kind of step leaves of the logs.
 use Rattle.rebuild_steps.specs.declared.images.Image.{Image}
-use Rattle.image_steps.specs.ServeUndo.{place_in, first_undo_order, undo_sent}
+use Rattle.image_steps.specs.ServeUndo.{first_undo_order, undo_sent}
 use Rattle.std.proofs.Common.{◌≡◌, ℕ, ◌^◌, ◌<◌, ◌&&◌, not, Bool, true, false, List, [], ◌∷◌, length, Option, None, Some, slice_get, if◌then◌else◌, refl, sym, ap, subst, ◌∙◌, arith}
-use Rattle.std.specs.Prelude.{IfSome, Result, Ok, Err, ◌==◌, slice_set}
-use Rattle.std.specs.List.{AllByRecursion}
+use Rattle.std.specs.Prelude.{Result, Ok, Err, ◌==◌, slice_set}
+use Rattle.std.specs.List.{AllByRecursion, list_all}
 use Rattle.std.proofs.lemmas.Bool.{eqb-true}
 use Rattle.std.proofs.lemmas.List.{length-set}
 use Rattle.rac_disk.specs.State.{State}
@@ -33,32 +33,33 @@ use Rattle.inst_state.specs.Needs.{dead_needed, dead_place}
 use Rattle.inst_state.specs.Shared.{given_of, is_live, open_control}
 use Rattle.inst_state.specs.declared.inst.ReadThread.{ReadThread}
 use Rattle.disk_steps.specs.AskUndo.{AsksAt, AsksBy, AsksWhere, ErrAs, ReadsBlock, ReadsHead, ReadsUndoAs, UndoGaveAs, asked_at, asked_by, lacking, place_of, undo_asked, undo_read as read_undo, asked_by_core, asked_core, undo_read_core}
-use Rattle.disk_steps.specs.Write.{adopted_cleaned, bytes_to_write, cleaned_in, with_segment as cleaned_segment, block_written, target, written_as, write_told, write_told_as}
-use Rattle.image_steps.specs.Ask.{ask_sent, asked, lacked, asked_in}
+use Rattle.disk_steps.specs.Write.{bytes_to_write, block_written, target, written_as, write_told, write_told_as}
+use Rattle.image_steps.specs.Ask.{ask_sent, asked, lacked}
 use Rattle.image_steps.specs.AskWrite.{write_asked, write_plea_sent, past_version}
 use Rattle.image_steps.specs.Evict.{evict_sent, evicted}
 use Rattle.report_steps.specs.Report.{given, reported, reported_core}
 use Rattle.rebuild_steps.specs.Images.{LoadsImage, bytes_of, rolled_from}
 use Rattle.rebuild_steps.specs.Recover.{RebuildsAs, Rewrites, WritesAs, WritesMade, noted, noted_core, recovered_core, redo_read, recovered as recover}
 use Rattle.inst_node.specs.Moves.{BlockDisk, RecoveredAs, SessionDisk, telling, asked_undo_of, block_part, closing_of, crashed_of, dead_part, forced_of, found_of, inst_part, installed_of, joined_by, line_part, plain_part, recovered_by, session_part, thawed_by, written_of, block_core, dead_core, inst_core, joined_core_by, line_core, plain_core, recovered_core_by, session_core, thawed_core_by, InstDisk, JoinedAs, LineDisk, PlainDisk, ThawedAs}
-use Rattle.log_laws.specs.Sound.{IsBehindRecord}
 use Rattle.inst_node.specs.Made.{record_made}
 use Rattle.stmt_steps.specs.Change.{record_in}
 use Rattle.log_laws.proofs.Cluster.{AtOwn, Files, Logs, Own as OwnPart, ReadOf, Shared, own_of, shared_of, left as left_shared, lost_own, open_in}
-use Rattle.log_laws.proofs.Keeps.{Keeps, MayRecord, Untouched, held, records, rests, stops, untouched_block, untouched_kept, untouched_same, untouched_then}
+use Rattle.log_laws.proofs.Keeps.{Eased, Keeps, MayRecord, Untouched, eased_then, eased_where_same, eases, held, lost_is, records, rests, stops, untouched_block, untouched_kept, untouched_same, untouched_then}
+use Rattle.log_laws.proofs.Eases.{asked_eases, came_eases, evicted_eases, followed_eases, past_eases, plea_eases, read_eases, reported_eases, shipped_eases, upgraded_eases, visited_eases, without_eases, written_eases}
+use Rattle.log_laws.proofs.Places.{applying_more, dead_more, marking_more, places_of, reopened_fewer, taken_fewer}
 use Rattle.log_laws.proofs.Moves.{own_moved, no_way}
 use Rattle.log_laws.proofs.Thawing.{own_kept, reopened_again}
-use Rattle.log_laws.proofs.Quiet.{ack_shared, broadcast_shared, gave_shared, lost_shared, plea_shared, sent_shared, wrote_shared, copy_shared, gone_shared, hear_shared, master_shared, move_shared, note_shared, past_shared, send_shared, ship_shared, skip_shared, undo_shared}
+use Rattle.log_laws.proofs.Quiet.{write_shared, ack_shared, broadcast_shared, gave_shared, lost_shared, plea_shared, sent_shared, copy_shared, gone_shared, hear_shared, master_shared, move_shared, note_shared, past_shared, send_shared, ship_shared, skip_shared, undo_shared}
 use Rattle.redo_types.specs.declared.redo.Redo.{Redo}
 use Rattle.inst_set.specs.Sets.{has}
+use Rattle.wire_net.specs.declared.message.Lane.{Lane}
 use Rattle.wire_net.specs.declared.message.Lane.TheVariants.{Main, Undo as UndoLane}
 use Rattle.wire_net.specs.declared.message.Message.{Message}
-use Rattle.wire_net.specs.declared.message.Message.TheVariants.{Bucket, Grant, Shipped, Commit, Copy, Heard, UndoIs, NeedUndo}
+use Rattle.wire_net.specs.declared.message.Message.TheVariants.{Bucket, Grant, Shipped, Commit, Heard, NeedUndo}
 use Rattle.wire_net.specs.declared.message.Mode.{Mode}
 use Rattle.wire_net.specs.declared.message.Packet.{Packet}
 use Rattle.inst_state.specs.declared.inst.Inst.{Inst}
 use Rattle.inst_state.specs.declared.shared.Core.{Core}
-use Rattle.inst_state.specs.Hand.{current_image}
 use Rattle.inst_state.specs.State.{session_at, with_session, stmt_at}
 use Rattle.std.specs.Option.{option_map}
 use Rattle.inst_state.specs.Sending.{first_from, without_first}
@@ -73,15 +74,13 @@ use Rattle.disk_steps.specs.declared.undo_asks.AskedUndo.{AskedUndo}
 use Rattle.disk_steps.specs.declared.undo_asks.Lacking.{Lacking}
 use Rattle.disk_steps.specs.declared.undo_asks.Lacking.TheVariants.{Sense, Undo}
 use Rattle.disk_steps.specs.declared.undo_asks.Place.{Place}
-use Rattle.image_steps.specs.declared.invalidating.Granted.{Granted}
-use Rattle.image_steps.specs.declared.shipping.Order.{Order}
 use Rattle.wave_steps.specs.declared.buckets.BucketMove.{BucketMove}
 use Rattle.image_steps.specs.Hear.{first_message, hears, heard}
-use Rattle.image_steps.specs.Invalidate.{first_to_go, without_image, invalidate_sent, invalidated}
-use Rattle.image_steps.specs.Ship.{first_order, followed, shipment, ship_sent, shipped as ship_part}
-use Rattle.image_steps.specs.TakeCopy.{copy_taken, came_by, handed_in}
+use Rattle.image_steps.specs.Invalidate.{first_to_go, invalidate_sent, invalidated}
+use Rattle.image_steps.specs.Ship.{first_order, shipment, ship_sent, shipped as ship_part}
+use Rattle.image_steps.specs.TakeCopy.{copy_taken, handed_in}
 use Rattle.wave_steps.specs.Buckets.{moved_by, with_moved, taking_bucket, taking_packet, bucket_kept, bucket_sent, bucket_sent_core, bucket_taken, bucket_taken_core}
-use Rattle.report_steps.specs.Reopen.{reopened, reopened_core, resumed, resumed_core}
+use Rattle.report_steps.specs.Reopen.{is_done, reopened, reopened_core, resumed, resumed_core}
 use Rattle.rebuild_steps.specs.Join.{begun}
 use Rattle.rebuild_steps.specs.declared.recovers.Recovered.{Recovered}
 use Rattle.inst_node.specs.declared.actions.Action.{Action}
@@ -96,8 +95,6 @@ use Rattle.inst_node.specs.declared.hows.How.{How}
 use Rattle.block_image.specs.Block.{BlockContent}
 use Rattle.undo_segment.specs.Segment.{SegmentState}
 use Rattle.scn_clock.specs.Clock.{raised}
-use Rattle.disk_steps.specs.declared.writing.Target.{Target}
-use Rattle.disk_steps.specs.declared.writing.Target.TheVariants.{Adopted, Data, Own}
 use Rattle.wave_steps.specs.Enter.{entered, entered_core}
 use Rattle.inst_state.specs.declared.session.Ending.{Ending}
 use Rattle.image_steps.specs.DropPast.{first_past_order, past_dropped, past_sent}
@@ -105,7 +102,6 @@ use Rattle.image_steps.specs.MasterTake.{master_sent, master_taken}
 use Rattle.image_steps.specs.Sends.{sends}
 use Rattle.image_steps.specs.ServeCopy.{first_copy_order, copy_sent}
 use Rattle.wave_steps.specs.WaveEnd.{left, risen, skipped}
-use Rattle.rac_disk.specs.Content.{Content}
 use Rattle.log_laws.proofs.ByDisk.{check_keeps, crash_keeps, force_keeps}
 use Rattle.log_laws.proofs.ByOpen.{JoinMay, ThawMay, join_keeps, thaw_keeps}
 use Rattle.log_laws.proofs.ByThread.{close_keeps, read_keeps}
@@ -142,7 +138,7 @@ MayMakeRedo n action = (redo : Redo) → record_made n action ≡ Some redo → 
 change_keeps : (n : Inst) (z : ℕ) (core now : Core) (old new : State) (o : Option Decision) → ((redo : Redo) → record_in o ≡ Some redo → CanRecord n × IsRedo redo)
     → shared_of now ≡ shared_of core → Untouched old new → Keeps n (changed_as n z o) core now old new
 change_keeps n z core now old new (Some (Do redo)) may shared u =
-    let m = may redo refl in records n (row_changed n z redo) core now old new redo refl m.0.may m.1 m.0.room shared u
+    let m = may redo refl in records n (row_changed n z redo) core now old new redo refl (applying_more n (block_at n z) redo) m.0.may m.1 m.0.room shared u
 change_keeps n z core now old new (Some (Refuse cause)) may shared u = rests n (line_refused n z) core now old new refl shared u
 change_keeps n z core now old new (Some (Restart end)) may shared u = rests n (line_restarted n z end) core now old new refl shared u
 change_keeps n z core now old new (Some AlreadyMine) may shared u = rests n (lock_found n z) core now old new refl shared u
@@ -151,14 +147,15 @@ change_keeps n z core now old new _ may shared u = rests n n core now old new re
 mark_keeps : (n : Inst) (z : ℕ) (core now : Core) (old new : State) (o : Option Redo) → ((redo : Redo) → o ≡ Some redo → CanRecord n × IsRedo redo)
     → shared_of now ≡ shared_of core → Untouched old new → Keeps n (marked_by n z o) core now old new
 mark_keeps n z core now old new (Some redo) may shared u =
-    let m = may redo refl in records n (end_made n z redo (commits (end_kind n z))) core now old new redo refl m.0.may m.1 m.0.room shared u
+    let m = may redo refl in
+    let k = end_made n z redo (commits (end_kind n z)) in records n k core now old new redo refl (marking_more n k redo refl refl) m.0.may m.1 m.0.room shared u
 mark_keeps n z core now old new None may shared u = rests n n core now old new refl shared u
 
 back_keeps : (n : Inst) (z : ℕ) (core now : Core) (old new : State) (o : Option Redo) → ((redo : Redo) → o ≡ Some redo → CanRecord n × IsRedo redo)
     → shared_of now ≡ shared_of core → Untouched old new → Keeps n (stepped_by n z o) core now old new
 back_keeps n z core now old new (Some redo) may shared u =
     let m = may redo refl in
-    records n (with_session (applying n (block_at n z) redo) z (one_less (session_at n z))) core now old new redo refl m.0.may m.1 m.0.room shared u
+    records n (with_session (applying n (block_at n z) redo) z (one_less (session_at n z))) core now old new redo refl (applying_more n (block_at n z) redo) m.0.may m.1 m.0.room shared u
 back_keeps n z core now old new None may shared u = rests n n core now old new refl shared u
 
 ended_own : (n : Inst) (z : ℕ) (o : Option Answer) → own_of (ended_by n z o) ≡ own_of n
@@ -175,7 +172,7 @@ acked_own n z (Some ending) = refl
 
 -- an instance that ends by itself
 stop : (n : Inst) (core : Core) (bad : Bool) (old new : State) → Untouched old new → Keeps n (lost n) core (lost_core n core (loss.Ended bad) (Some 0)) old new
-stop n core bad old new u = stops n (lost n) core (lost_core n core (loss.Ended bad) (Some 0)) old new refl (lost_shared n core (loss.Ended bad) (Some 0)) u
+stop n core bad old new u = stops n (lost n) core (lost_core n core (loss.Ended bad) (Some 0)) old new (lost_is n) (lost_shared n core (loss.Ended bad) (Some 0)) u
 
 -- AskUndo
 
@@ -239,7 +236,7 @@ pub session_keeps : (n : Inst) (core : Core) (kind : SessionStep) (z : ℕ) (it 
     → Keeps n (session_part n core kind z it) core (session_core n core kind z it) old new
 unfolding session_part session_core SessionDisk
 session_keeps n core session.StartStmt z it old new may u = rests n (started n z) core (telling core (start_tells n z ∷ [])) old new refl refl (untouched_same old new u)
-session_keeps n core session.Visit z it old new may u = rests n (visited n z) core (telling core (visit_tells n z)) old new refl refl (untouched_same old new u)
+session_keeps n core session.Visit z it old new may u = eases n (visited n z) core (telling core (visit_tells n z)) old new (visited_eases n z) refl (untouched_same old new u)
 session_keeps n core session.Change z it old new may u =
     change_keeps n z core (telling core (change_tells n z)) old new (change_decided n z) may refl (untouched_same old new u)
 session_keeps n core session.Mark z it old new may u =
@@ -267,14 +264,14 @@ applied_count n redo (Some place) =
     length_set n.leading.adopted place (option_map (λ segment. applied segment redo (end_of n.thread)) (slice_get n.leading.adopted place))
 
 -- what an instance has with one record more, of a segment that it has adopted
-dead_own : (n : Inst) (redo : Redo) (m : Inst) → own_of m ≡ record (own_of n) { thread = appended n.thread redo; adopts = length (adopted_applied n.leading.adopted (dead_place n) redo (end_of n.thread)) }
-    → own_of m ≡ record (own_of n) { thread = appended n.thread redo }
-dead_own n redo m e = e ∙ ap (λ (k : ℕ). record (own_of n) { thread = appended n.thread redo; adopts = k }) (applied_count n redo (dead_place n))
+dead_own : (n : Inst) (redo : Redo) (m : Inst) → own_of m ≡ record (own_of n) { thread = appended n.thread redo; places = places_of m; adopts = length (adopted_applied n.leading.adopted (dead_place n) redo (end_of n.thread)) }
+    → own_of m ≡ record (own_of n) { thread = appended n.thread redo; places = places_of m }
+dead_own n redo m e = e ∙ ap (λ (k : ℕ). record (own_of n) { thread = appended n.thread redo; places = places_of m; adopts = k }) (applied_count n redo (dead_place n))
 
 dead_mark_keeps : (n : Inst) (core now : Core) (old new : State) (o : Option Redo) → ((redo : Redo) → o ≡ Some redo → CanRecord n × IsRedo redo)
     → shared_of now ≡ shared_of core → Untouched old new → Keeps n (dead_marked_by n o) core now old new
 dead_mark_keeps n core now old new (Some redo) may shared u =
-    let m = may redo refl in records n (dead_end_made n redo) core now old new redo (dead_own n redo (dead_end_made n redo) refl) m.0.may m.1 m.0.room shared u
+    let m = may redo refl in records n (dead_end_made n redo) core now old new redo (dead_own n redo (dead_end_made n redo) refl) (λ P one a. a) m.0.may m.1 m.0.room shared u
 dead_mark_keeps n core now old new None may shared u = rests n n core now old new refl shared u
 
 dead_back_keeps : (n : Inst) (core now : Core) (old new : State) (o : Option Redo) → ((redo : Redo) → o ≡ Some redo → CanRecord n × IsRedo redo)
@@ -282,7 +279,7 @@ dead_back_keeps : (n : Inst) (core now : Core) (old new : State) (o : Option Red
 dead_back_keeps n core now old new (Some redo) may shared u =
     let m = may redo refl in
     let k = applying_dead n (block_or_zero (dead_needed n)) redo in
-    records n k core now old new redo (dead_own n redo k refl) m.0.may m.1 m.0.room shared u
+    records n k core now old new redo (dead_own n redo k refl) (dead_more n (block_or_zero (dead_needed n)) redo) m.0.may m.1 m.0.room shared u
 dead_back_keeps n core now old new None may shared u = rests n n core now old new refl shared u
 
 pub dead_keeps : (n : Inst) (core : Core) (kind : DeadStep) (job : ℕ) (old new : State) → MayMakeRedo n (Dead kind job) → new ≡ old
@@ -295,30 +292,10 @@ dead_keeps n core dead.AskUndo job old new may u = stop n core true old new (unt
 
 -- blocks
 
-asked_own : (n : Inst) (block : ℕ) (o : Option Mode) → own_of (asked_in n block o) ≡ own_of n
-asked_own n block None = refl
-asked_own n block (Some mode) = refl
-
-cleaned_count : (adopted : List SegmentState) (at : ℕ) (block : ℕ) → length (adopted_cleaned adopted at block) ≡ length adopted
-cleaned_count adopted at block = by (option_map (λ segment. cleaned_in segment (place_in segment block)) (slice_get adopted at))
-  where
-    by : (o : Option SegmentState) → length (cleaned_segment adopted at o) ≡ length adopted
-    by None = refl
-    by (Some x) = length-set adopted at x
-
-written_own : (n : Inst) (block : ℕ) (what : Target) → own_of (written_as n block what) ≡ own_of n
-written_own n block Data = refl
-written_own n block (Adopted at) = ap (λ (k : ℕ). record (own_of n) { adopts = k }) (cleaned_count n.leading.adopted at block)
-written_own n block Own = refl
-
-write_shared : (n : Inst) (core : Core) (block : ℕ) (what : Target) → shared_of (write_told_as n core block what) ≡ shared_of core
-write_shared n core block Data = wrote_shared n core block (current_image n block)
-write_shared n core block _ = refl
-
 write_keeps : (n : Inst) (core : Core) (block : ℕ) (it : Written) (old new : State) → Untouched old new
     → Keeps n (block_written n block it) core (write_told n core block it) old new
 write_keeps n core block written.Done old new u =
-    rests n (written_as n block (target n block)) core (write_told_as n core block (target n block)) old new (written_own n block (target n block)) (write_shared n core block (target n block)) u
+    eases n (written_as n block (target n block)) core (write_told_as n core block (target n block)) old new (written_eases n block (target n block)) (write_shared n core block (target n block)) u
 write_keeps n core block written.Failed old new u = stop n core false old new u
 
 made_untouched : (block : ℕ) (made : Option Image) (how : Written) (old new : State) → WritesMade block made how old new → Untouched old new
@@ -359,7 +336,7 @@ reading n m core now old new rs own shared untouched all owns i at small holds =
     subst (λ (p : OwnPart). Logs (shared_of now) (slice_set owns i p) f) (sym own)
     (subst (λ (s : Shared). Logs s (slice_set owns i o) f) (sym shared)
     (own_moved (shared_of core) f owns i o logs
-    (own_kept (shared_of core) f i (own_of n) o here refl refl (λ cl. ((here.idle cl).up, (here.idle cl).none)) (omega arith)
+    (own_kept (shared_of core) f i (own_of n) o here refl refl (λ P a. a) (λ cl. ((here.idle cl).up, (here.idle cl).none)) (omega arith)
     (λ e. all f owns logs (read_before f here)))))))
   where
     read_before : (f : Files) → AtOwn (shared_of core) f i (own_of n)
@@ -391,13 +368,13 @@ pub block_keeps : (n : Inst) (core : Core) (kind : BlockStep) (number : ℕ) (it
     → Keeps n (block_part n core kind number it) core (block_core n core kind number it) old new
 unfolding block_part block_core BlockDisk
 block_keeps n core block.Ask number it old new u =
-    rests n (asked n number) core (ask_sent n core number) old new (asked_own n number (lacked n number)) (sent_shared n core number (lacked n number)) (untouched_same old new u)
+    eases n (asked n number) core (ask_sent n core number) old new (asked_eases n number (lacked n number)) (sent_shared n core number (lacked n number)) (untouched_same old new u)
 block_keeps n core block.Evict number it old new u =
-    rests n (evicted n number) core (evict_sent n core number) old new refl (gave_shared n core number (clean_grant (place_at n.cache number).current)) (untouched_same old new u)
+    eases n (evicted n number) core (evict_sent n core number) old new (evicted_eases n number) (gave_shared n core number (clean_grant (place_at n.cache number).current)) (untouched_same old new u)
 block_keeps n core block.WriteBlock number it old new u =
     write_keeps n core number (written_of it) old new (untouched_block number (bytes_to_write n number) (result_of (written_of it)) old new u)
 block_keeps n core block.AskWrite number it old new u =
-    rests n (write_asked n number) core (write_plea_sent n core number) old new refl (plea_shared n core number (past_version n number)) (untouched_same old new u)
+    eases n (write_asked n number) core (write_plea_sent n core number) old new (plea_eases n number) (plea_shared n core number (past_version n number)) (untouched_same old new u)
 block_keeps n core block.GivePast number it old new u = rests n n core (given n core number) old new refl refl (untouched_same old new u)
 block_keeps n core block.RecoverBlock number it old new u = recover_by n core number it old new u
 
@@ -412,14 +389,15 @@ data_untouched block data_read.Failed old new it = untouched_kept old new it.loa
 stop_heard : (n k : Inst) (core c : Core) (bad : Bool) (old new : State) → own_of k ≡ own_of n → shared_of c ≡ shared_of core → Untouched old new
     → Keeps n (lost k) core (lost_core k c (loss.Ended bad) (Some 0)) old new
 stop_heard n k core c bad old new own shared u =
-    stops n (lost k) core (lost_core k c (loss.Ended bad) (Some 0)) old new (ap lost_own own)
+    stops n (lost k) core (lost_core k c (loss.Ended bad) (Some 0)) old new (lost_is k ∙ ap lost_own own)
     (lost_shared k c (loss.Ended bad) (Some 0) ∙ ap (λ (s : Shared). left_shared s k.plan.me) shared ∙ ap (λ (o : OwnPart). left_shared (shared_of core) o.me) own) u
 
 read_image : (n k : Inst) (core c : Core) (block grant : ℕ) (mode : Mode) (it : Installed) (old new : State) → own_of k ≡ own_of n → shared_of c ≡ shared_of core
     → InstallsAs (Some (Grant block grant mode true)) it old new
     → Keeps n (granted k block grant mode true it) core (granted_core k c block grant mode it) old new
 read_image n k core c block grant mode (installed.Read (data_read.Image image)) old new own shared it =
-    rests n (with_image k block (Some (read_from_disk grant mode image.value))) core (granted_core k c block grant mode (installed.Read (data_read.Image image))) old new own shared
+    let m = with_image k block (Some (read_from_disk grant mode image.value)) in
+    eases n m core (granted_core k c block grant mode (installed.Read (data_read.Image image))) old new (eased_then n k m (eased_where_same n k own) (read_eases k block grant mode image.value)) shared
     (data_untouched block (data_read.Image image) old new it)
 read_image n k core c block grant mode (installed.Read data_read.Failed) old new own shared it = stop_heard n k core c false old new own shared (data_untouched block data_read.Failed old new it)
 read_image n k core c block grant mode (installed.Read data_read.Bad) old new own shared it = stop_heard n k core c true old new own shared (data_untouched block data_read.Bad old new it)
@@ -429,25 +407,18 @@ bring : (n k : Inst) (core c : Core) (o : Option Message) (it : Installed) (old 
     → Keeps n (brought k o it) core (brought_core k c o it) old new
 bring n k core c (Some (Grant block grant mode true)) it old new own shared made = read_image n k core c block grant mode it old new own shared made
 bring n k core c (Some (Grant block grant mode false)) it old new own shared made =
-    rests n (brought k (Some (Grant block grant mode false)) it) core (brought_core k c (Some (Grant block grant mode false)) it) old new own shared (untouched_same old new made)
+    let m = brought k (Some (Grant block grant mode false)) it in
+    eases n m core (brought_core k c (Some (Grant block grant mode false)) it) old new (eased_then n k m (eased_where_same n k own) (upgraded_eases k block grant)) shared (untouched_same old new made)
 bring n k core c (Some (Shipped shipment)) it old new own shared made =
-    rests n (brought k (Some (Shipped shipment)) it) core (brought_core k c (Some (Shipped shipment)) it) old new own shared (untouched_same old new made)
+    let m = brought k (Some (Shipped shipment)) it in
+    eases n m core (brought_core k c (Some (Shipped shipment)) it) old new (eased_then n k m (eased_where_same n k own) (shipped_eases k shipment)) shared (untouched_same old new made)
 bring n k core c o it old new own shared made = rests n k core c old new own shared (untouched_same old new made)
 
 -- what an instance has of what it heard
 
-without_own : (k : Inst) (o : Option Granted) → own_of (without_image k o) ≡ own_of k
-without_own k None = refl
-without_own k (Some image) = refl
-
-followed_own : (k : Inst) (o : Option Order) → own_of (followed k o) ≡ own_of k
-followed_own k None = refl
-followed_own k (Some order) = refl
-
-came_own : (n : Inst) (o : Option Message) → own_of (came_by n o) ≡ own_of n
-came_own n (Some (Copy image upto)) = refl
-came_own n (Some (UndoIs image job)) = refl
-came_own n _ = refl
+-- an instance that has taken what is first on a link
+hears_then : (n m : Inst) (core : Core) (from : ℕ) (lane : Lane) → Eased (hears n core from lane) m → Eased n m
+hears_then n m core from lane eased = eased_then n (hears n core from lane) m (eased_where_same n (hears n core from lane) refl) eased
 
 hearing_own : (n : Inst) (epoch from : ℕ) (message : Message) → own_of (hearing n epoch from message) ≡ own_of n
 hearing_own n epoch from (Commit c) = refl
@@ -482,21 +453,25 @@ unfolding inst_part inst_core InstDisk
 inst_keeps n core inst.MasterTake from it old new may u =
     rests n (master_taken n core from) core (master_sent n core from) old new refl (master_shared (hears n core from Main) (heard n core from Main) (first_message n core from Main)) (untouched_same old new u)
 inst_keeps n core inst.Invalidate from it old new may u =
-    rests n (invalidated n core from) core (invalidate_sent n core from) old new (without_own (hears n core from Main) (first_to_go n core from))
+    eases n (invalidated n core from) core (invalidate_sent n core from) old new
+    (hears_then n (invalidated n core from) core from Main (without_eases (hears n core from Main) (first_to_go n core from)))
     (gone_shared (hears n core from Main) (heard n core from Main) (first_to_go n core from)) (untouched_same old new u)
 inst_keeps n core inst.Ship from it old new may u =
-    rests n (ship_part n core from) core (ship_sent n core from) old new (followed_own (hears n core from Main) (first_order n core from))
+    eases n (ship_part n core from) core (ship_sent n core from) old new
+    (hears_then n (ship_part n core from) core from Main (followed_eases (hears n core from Main) (first_order n core from)))
     (ship_shared n (hears n core from Main) (heard n core from Main) (first_order n core from)) (untouched_same old new u)
 inst_keeps n core inst.ServeCopy from it old new may u =
     rests n (hears n core from Main) core (copy_sent n core from) old new refl (copy_shared (hears n core from Main) (heard n core from Main) (first_copy_order n core from)) (untouched_same old new u)
 inst_keeps n core inst.DropPast from it old new may u =
-    rests n (past_dropped n core from) core (past_sent n core from) old new refl (past_shared (hears n core from Main) (heard n core from Main) (first_past_order n core from)) (untouched_same old new u)
+    eases n (past_dropped n core from) core (past_sent n core from) old new (past_eases n core from) (past_shared (hears n core from Main) (heard n core from Main) (first_past_order n core from)) (untouched_same old new u)
 inst_keeps n core inst.Install from it old new may u =
     bring n (hears n core from Main) core (heard n core from Main) (first_message n core from Main) (installed_of it) old new refl refl u
 inst_keeps n core inst.TakeCopy from it old new may u =
-    rests n (copy_taken n core from Main) core (heard n core from Main) old new (came_own (hears n core from Main) (first_message n core from Main)) refl (untouched_same old new u)
+    eases n (copy_taken n core from Main) core (heard n core from Main) old new
+    (hears_then n (copy_taken n core from Main) core from Main (came_eases (hears n core from Main) (first_message n core from Main))) refl (untouched_same old new u)
 inst_keeps n core inst.TakeUndo from it old new may u =
-    rests n (copy_taken n core from UndoLane) core (heard n core from UndoLane) old new (came_own (hears n core from UndoLane) (first_message n core from UndoLane)) refl (untouched_same old new u)
+    eases n (copy_taken n core from UndoLane) core (heard n core from UndoLane) old new
+    (hears_then n (copy_taken n core from UndoLane) core from UndoLane (came_eases (hears n core from UndoLane) (first_message n core from UndoLane))) refl (untouched_same old new u)
 inst_keeps n core inst.ServeUndo from it old new may u =
     rests n (hears n core from UndoLane) core (undo_sent n core from) old new refl (undo_shared (hears n core from UndoLane) (heard n core from UndoLane) from (first_undo_order n core from)) (untouched_same old new u)
 inst_keeps n core inst.Heard from it old new may u =
@@ -510,26 +485,26 @@ inst_keeps n core inst.CloseThread thread it old new may u = close_keeps n core 
 
 -- control lines
 
--- What a step for a control line asks, where the disk tells this.
-abbrev pub LineMay : Inst → Core → LineStep → Option Content → Type 0
-LineMay n core line.Crash told = is_live core n.plan.me ≡ true
-LineMay n core line.Checkpoint told = IfSome told (IsBehindRecord n)
-LineMay n core line.Join told = JoinMay n core
-LineMay n core _ told = Unit {0}
+-- What a step for a control line asks.
+abbrev pub LineMay : Inst → Core → LineStep → Type 0
+LineMay n core line.Crash = is_live core n.plan.me ≡ true
+LineMay n core line.Checkpoint = (is_live core n.plan.me ≡ true) × (core.members.phase ≡ phase.Running)
+LineMay n core line.Join = JoinMay n core
+LineMay n core _ = Unit {0}
 
 join_by : (n : Inst) (core : Core) (number : ℕ) (it : How) (old new : State) → JoinMay n core → JoinedAs (begun n core number) core it old new
     → Keeps n (joined_by n core number it) core (joined_core_by n core number it) old new
 join_by n core number (how.Joined it) old new may made = join_keeps n core number it old new may made
 join_by n core number _ old new may made = absurd made
 
-pub line_keeps : (n : Inst) (core : Core) (kind : LineStep) (number : ℕ) (it : How) (old new : State) → LineMay n core kind old.told → LineDisk n core kind number it old new
+pub line_keeps : (n : Inst) (core : Core) (kind : LineStep) (number : ℕ) (it : How) (old new : State) → LineMay n core kind → LineDisk n core kind number it old new
     → Keeps n (line_part n core kind number it) core (line_core n core kind number it) old new
 unfolding line_part line_core LineDisk
 line_keeps n core line.Crash number it old new may u = crash_keeps n core (open_control core number) (crashed_of it) old new may u
 line_keeps n core line.SendBucket number it old new may u =
     rests n (bucket_sent n core number) core (bucket_sent_core n core number) old new (moved_own n (moved_by core number)) (send_shared n core (moved_by core number)) (untouched_same old new u)
 line_keeps n core line.KeepBucket number it old new may u = rests n n core (bucket_kept core number) old new refl (move_shared core (open_control core number)) (untouched_same old new u)
-line_keeps n core line.Checkpoint number it old new may u = check_keeps n core number (written_of it) old new may u
+line_keeps n core line.Checkpoint number it old new may u = check_keeps n core number (written_of it) old new may.0 may.1 u
 line_keeps n core line.Skip number it old new may u = rests n n core (skipped core number) old new refl (skip_shared core (open_control core number)) (untouched_same old new u)
 line_keeps n core line.Join number it old new may u = join_by n core number it old new may u
 
@@ -539,18 +514,18 @@ line_keeps n core line.Join number it old new may u = join_by n core number it o
 abbrev pub PlainMay : Inst → Core → PlainStep → Type 0
 PlainMay n core plain.Force = is_live core n.plan.me ≡ true
 PlainMay n core plain.Thaw = ThawMay n core
-PlainMay n core plain.Reopen = core.members.phase ≡ phase.Thawed
+PlainMay n core plain.Reopen = (core.members.phase ≡ phase.Thawed) × (list_all is_done n.leading.adopted ≡ true)
 PlainMay n core plain.Resume = (is_live core n.plan.me ≡ true) × (core.members.phase ≡ phase.Running)
 PlainMay n core _ = Unit {0}
 
-reopen_keeps : (n : Inst) (core : Core) (old new : State) → core.members.phase ≡ phase.Thawed → Untouched old new → Keeps n (reopened n) core (reopened_core core) old new
-reopen_keeps n core old new thawed u owns i at small holds =
+reopen_keeps : (n : Inst) (core : Core) (old new : State) → core.members.phase ≡ phase.Thawed → list_all is_done n.leading.adopted ≡ true → Untouched old new → Keeps n (reopened n) core (reopened_core core) old new
+reopen_keeps n core old new thawed done u owns i at small holds =
     held n (reopened n) core (reopened_core core) old new owns i u holds (λ f logs. (
     let s : Shared = record (shared_of core) { phase = phase.Running } in
     let again = reopened_again (shared_of core) f owns logs thawed in
     let here = again.each i (own_of n) at in
-    let p : OwnPart = record (own_of n) { adopts = 0 } in
-    own_moved s f owns i p again (own_kept s f i (own_of n) p here refl refl (λ cl. ((here.idle cl).up, refl)) here.epoch here.reads)))
+    let p : OwnPart = record (own_of n) { places = places_of (reopened n); adopts = 0 } in
+    own_moved s f owns i p again (own_kept s f i (own_of n) p here refl refl (reopened_fewer n done) (λ cl. ((here.idle cl).up, refl)) here.epoch here.reads)))
 
 resume_keeps : (n : Inst) (core : Core) (old new : State) → is_live core n.plan.me ≡ true → core.members.phase ≡ phase.Running → Untouched old new
     → Keeps n (resumed n core) core (resumed_core n core) old new
@@ -563,7 +538,7 @@ resume_keeps n core old new live running u owns i at small holds =
     let lives : has s.live i ≡ true = ap (has s.live) (sym me) ∙ live in
     let opens : open_in s i ≡ true = (λ k. lives k && not (none k)) in
     own_moved s f owns i (own_of (resumed n core)) logs
-    (own_kept s f i (own_of n) (own_of (resumed n core)) here refl refl (λ cl. absurd (no_way (open_in s i) opens cl)) here.epoch here.reads)))
+    (own_kept s f i (own_of n) (own_of (resumed n core)) here refl refl (taken_fewer n core) (λ cl. absurd (no_way (open_in s i) opens cl)) here.epoch here.reads)))
 
 thaw_by : (n : Inst) (core : Core) (it : How) (old new : State) → ThawMay n core → ThawedAs n core it old new → Keeps n (thawed_by n core it) core (thawed_core_by n core it) old new
 thaw_by n core (how.Thawed it) old new may made = thaw_keeps n core it old new may made
@@ -574,9 +549,9 @@ pub plain_keeps : (n : Inst) (core : Core) (kind : PlainStep) (it : How) (old ne
 unfolding plain_part plain_core PlainDisk
 plain_keeps n core plain.Enter it old new may u = rests n (entered n core) core (entered_core n core) old new refl refl (untouched_same old new u)
 plain_keeps n core plain.Force it old new may u = force_keeps n core (forced_of it) old new may u
-plain_keeps n core plain.Report it old new may u = rests n (reported n) core (reported_core n core) old new refl refl (untouched_same old new u)
+plain_keeps n core plain.Report it old new may u = eases n (reported n) core (reported_core n core) old new (reported_eases n) refl (untouched_same old new u)
 plain_keeps n core plain.Thaw it old new may u = thaw_by n core it old new may u
-plain_keeps n core plain.Reopen it old new may u = reopen_keeps n core old new may (untouched_same old new u)
+plain_keeps n core plain.Reopen it old new may u = reopen_keeps n core old new may.0 may.1 (untouched_same old new u)
 plain_keeps n core plain.Resume it old new may u = resume_keeps n core old new may.0 may.1 (untouched_same old new u)
 plain_keeps n core plain.Leave it old new may u = rests n n core (left n core) old new refl refl (untouched_same old new u)
 plain_keeps n core plain.Wave it old new may u = rests n n core (risen core) old new refl refl (untouched_same old new u)

@@ -1,5 +1,5 @@
 -- What the opening of threads leaves of the logs.
-use Rattle.std.proofs.Common.{◌≡◌, ℕ, zero, suc, ◌^◌, ◌<◌, ◌≤◌, ◌&&◌, ◌||◌, not, Bool, true, false, List, [], ◌∷◌, length, take, Option, None, Some, slice_get, refl, sym, ap, subst, ◌∙◌, ◌⊎◌, inl, inr, arith}
+use Rattle.std.proofs.Common.{◌≡◌, ℕ, ◌+◌, ◌^◌, ◌<◌, ◌≤◌, ◌&&◌, ◌||◌, not, Bool, true, false, List, [], length, take, Option, None, Some, slice_get, refl, sym, ap, subst, ◌∙◌, ◌⊎◌, inl, inr, arith}
 use Rattle.std.specs.Prelude.{IfSome, Result, Ok, Err, slice_set, is_none}
 use Rattle.std.proofs.lemmas.List.{take_all, get_or-set_same}
 use Rattle.rac_disk.specs.State.{State}
@@ -8,18 +8,20 @@ use Rattle.undo_segment.specs.declared.error.LoadError.{LoadError}
 use Rattle.disk_calls.specs.Calls.{GivesLengthAs}
 use Rattle.inst_state.specs.Shared.{is_live, closed_of, is_dark, is_running, with_closed}
 use Rattle.log_laws.proofs.Cluster.{AtOwn, Files, Logs, Own as OwnPart, Shared, own_of, shared_of, EntryIs, left as left_shared, log_in, lost_own, open_in, put_control, files_of, control_in, telling_closed, come as come_shared, is_settled, known_in}
-use Rattle.log_laws.proofs.Keeps.{Keeps, Untouched, stops, untouched_kept, untouched_same, untouched_then, HoldsAt, few_insts}
+use Rattle.log_laws.proofs.Places.{Fewer, clean_none, fewer_by, fewer_of_none, places_of, taken_fewer}
+use Rattle.log_laws.proofs.Sets.{get_set, set_twice}
+use Rattle.log_laws.proofs.Keeps.{Keeps, Untouched, lost_is, stops, untouched_kept, untouched_same, untouched_then, HoldsAt, few_insts}
 use Rattle.log_laws.proofs.Moves.{own_moved, control_put, no_way}
-use Rattle.log_laws.proofs.Quiet.{lost_shared}
+use Rattle.log_laws.proofs.Quiet.{dealt_shared, lost_shared}
 use Rattle.inst_set.specs.Sets.{is_empty, has, with_inst, without_inst}
 use Rattle.inst_state.specs.declared.inst.Inst.{Inst}
 use Rattle.inst_state.specs.declared.shared.Core.{Core}
 use Rattle.inst_loss.specs.Lost.{lost}
 use Rattle.inst_loss.specs.LostCore.{lost_core}
 use Rattle.disk_calls.specs.declared.writes.Written.{Written}
-use Rattle.rebuild_steps.specs.Join.{begun, with_segment, JoinsAs, is_open_to_joins, joined, joined_core}
+use Rattle.rebuild_steps.specs.Join.{begun, with_segment, IsReadOf, JoinsAs, is_open_to_joins, joined, joined_core}
 use Rattle.rebuild_steps.specs.Open.{scns_of, WritesRunning, empty_thread, running_bytes, running_entry}
-use Rattle.rebuild_steps.specs.Thaw.{opened_part, opened_shared, thaw_part, thawed as thaw, led, thaw_core, dealt_core, thawed_core}
+use Rattle.rebuild_steps.specs.Thaw.{opened_part, opened_shared, thaw_part, thawed as thaw, led, thaw_core, thawed_core, with_adopted}
 use Rattle.rebuild_steps.specs.declared.joins.Joined.{Joined}
 use Rattle.rebuild_steps.specs.declared.thaws.Thawed.{Thawed}
 use Rattle.scn_clock.specs.declared.clock.Clock.{Clock}
@@ -33,12 +35,13 @@ use Rattle.log_laws.specs.Logs.{IsWhole}
 use Rattle.log_laws.proofs.Files.{Put, asks_untouched, put_as, put_done}
 use Rattle.log_laws.proofs.Thawing.{AllKnown, thawed_open, thawed_opening}
 use Rattle.std.proofs.lemmas.Bool.{lt-ltb}
-use Rattle.log_laws.proofs.Moves.{closed_by_former}
+use Rattle.log_laws.proofs.Moves.{closed_by_former, closed_where}
 use Rattle.rebuild_steps.specs.Thaw.{OpensIf, ThawsAs, runs}
 use Rattle.rebuild_steps.specs.Adopt.{ReadsSegments, to_adopt}
 use Rattle.std.specs.Prelude.{is_some}
+use Rattle.std.specs.List.{AllByRecursion, flat_map}
+use Rattle.std.specs.Option.{option_to_list}
 use Rattle.log_laws.proofs.Leaving.{IsSmall, inst_stopped, settled_not}
-use Rattle.std.proofs.lemmas.Option.{none-some}
 use Rattle.report_steps.specs.Recovering.{is_dead}
 use Rattle.log_laws.proofs.Bytes.{same_whole}
 use Rattle.log_laws.proofs.Coming.{OpenEntry, closed_unknown, inst_came_dark, inst_joined, opened_own}
@@ -209,10 +212,10 @@ join_whole n core owns i f at logs may running =
     let gone : has s.live i ≡ false = ap (has s.live) (sym (logs.each i (own_of n) at).names.0) ∙ may.gone in
     (gone, ((logs.threads i few.1).known (logs.members.settled (ap is_settled running) i few.0 gone)).1)
 
-join_running : (n m : Inst) (core now : Core) (len : ℕ) (old mid new : State) → own_of m ≡ record (own_of n) { thread = empty_thread n.plan.me len; up = false }
-    → shared_of now ≡ telling_closed (come_shared (shared_of core) n.plan.me) n.plan.me None → JoinMay n core → core.members.phase ≡ phase.Running
+join_running : (n m : Inst) (core now : Core) (len : ℕ) (old mid new : State) → own_of m ≡ record (own_of n) { thread = empty_thread n.plan.me len; places = places_of m; up = false }
+    → Fewer (places_of n) (places_of m) → shared_of now ≡ telling_closed (come_shared (shared_of core) n.plan.me) n.plan.me None → JoinMay n core → core.members.phase ≡ phase.Running
     → Untouched old mid → WritesRunning n.plan.me (scns_of n core) len written.Done mid new → Keeps n m core now old new
-join_running n m core now len old mid new own shared may running u made owns i at small holds =
+join_running n m core now len old mid new own fewer shared may running u made owns i at small holds =
     let h = was core owns old holds in
     let s = shared_of core in
     let r = u h.0 h.1 in
@@ -220,11 +223,12 @@ join_running n m core now len old mid new own shared may running u made owns i a
     let me = (logs.each i (own_of n) at).names.0 in
     let few = few_insts s owns (files_of r.0) i (own_of n) logs at in
     let w = join_whole n core owns i (files_of r.0) at logs may running in
+    let none = fewer_of_none (places_of n) (places_of m) fewer ((logs.each i (own_of n) at).idle (closed_where s i w.0)).places in
     let o = opened_entry s owns i n.plan.me len (scns_of n core) mid new r.0 r.1 me few.1 logs w.1 made in
     let f = files_of o.0 in
     let is_now : shared_of now ≡ telling_closed (come_shared s i) i None = shared ∙ ap (λ (t : ℕ). telling_closed (come_shared s t) t None) me in
     finish m now owns i new.told o.0 (telling_closed (come_shared s i) i None) (record (opened_own f i (own_of n)) { up = false }) f o.1 is_now
-    (own ∙ ap (λ (k : ℕ). record (own_of n) { thread = empty_thread n.plan.me k; up = false }) o.2.2) refl
+    (own ∙ (λ j. record (own_of n) { thread = empty_thread n.plan.me (o.2.2 j); places = none j; up = false })) refl
     (inst_joined s f owns i (own_of n) false o.2.1 at few.0 few.1 (subst IsSmall (ap (λ (x : Shared). x.epoch) is_now) small) running w.0 o.2.0)
 
 join_unwritten : (n m : Inst) (core now : Core) (len : ℕ) (old mid new : State) → own_of m ≡ lost_own (own_of n)
@@ -241,26 +245,31 @@ join_unwritten n m core now len old mid new own shared may running u made owns i
     let o = opening s owns i n.plan.me len (scns_of n core) written.Failed mid new r.0 r.1 me few.1 logs w.1 made in
     left_unknown n m core now owns i new.told o.now o.tells o.logs at own shared small
 
+-- a segment that was just read has nothing that the disk lacks
+read_clean : (P : ℕ → Type 0) (layout : Layout) (me : ℕ) (own : SegmentState) → IsReadOf layout me own → AllByRecursion P (flat_map option_to_list own.since)
+read_clean P layout me own is =
+    subst (AllByRecursion P) (sym (ap (λ (x : SegmentState). flat_map option_to_list x.since) is.clean ∙ clean_none (1 + length own.blocks))) tt
+
 pub join_keeps : (n : Inst) (core : Core) (number : ℕ) (it : Joined) (old new : State) → JoinMay n core → JoinsAs (begun n core number) core it old new
     → Keeps n (joined n core number it) core (joined_core n core number it) old new
 join_keeps n core number joined.Dark old new may made = join_dark n core number old new may made.0 made.1
 join_keeps n core number (joined.Read own (thread.Running len)) old new may made =
-    join_running n (joined n core number (joined.Read own (thread.Running len))) core (joined_core n core number (joined.Read own (thread.Running len))) len old made.1.mid new refl refl
-    may (runs_if core may.opens made.0) (untouched_kept old made.1.mid made.1.reads.told) made.1.opens
+    join_running n (joined n core number (joined.Read own (thread.Running len))) core (joined_core n core number (joined.Read own (thread.Running len))) len old made.1.mid new refl
+    (fewer_by n (joined n core number (joined.Read own (thread.Running len))) (λ P a. read_clean P n.plan.layout n.plan.me own.value made.1.is_read) (λ P a. a)) refl may (runs_if core may.opens made.0) (untouched_kept old made.1.mid made.1.reads.told) made.1.opens
 join_keeps n core number (joined.Read own (thread.Unwritten len)) old new may made =
     let k = with_segment (begun n core number) own.value (scns_of n core) (thread.Unwritten len) in
-    join_unwritten n (lost k) core (joined_core n core number (joined.Read own (thread.Unwritten len))) len old made.1.mid new refl
+    join_unwritten n (lost k) core (joined_core n core number (joined.Read own (thread.Unwritten len))) len old made.1.mid new (lost_is k)
     (lost_shared k (with_closed core n.plan.me None) (loss.Ended false) (Some 0)) may (runs_if core may.opens made.0) (untouched_kept old made.1.mid made.1.reads.told) made.1.opens
 join_keeps n core number (joined.Read own thread.Untold) old new may made =
     let k = with_segment (begun n core number) own.value (scns_of n core) thread.Untold in
-    stops n (lost k) core (lost_core k core (loss.Ended false) (Some 0)) old new refl (lost_shared k core (loss.Ended false) (Some 0))
+    stops n (lost k) core (lost_core k core (loss.Ended false) (Some 0)) old new (lost_is k) (lost_shared k core (loss.Ended false) (Some 0))
     (untouched_then old made.1.mid new (untouched_kept old made.1.mid made.1.reads.told) (asks_untouched n.plan.me None made.1.mid new made.1.opens))
 join_keeps n core number joined.Bad old new may made =
     let k = begun n core number in
-    stops n (lost k) core (lost_core k core (loss.Ended true) (Some 0)) old new refl (lost_shared k core (loss.Ended true) (Some 0)) (untouched_kept old new made.1.reads.told)
+    stops n (lost k) core (lost_core k core (loss.Ended true) (Some 0)) old new (lost_is k) (lost_shared k core (loss.Ended true) (Some 0)) (untouched_kept old new made.1.reads.told)
 join_keeps n core number joined.Unread old new may made =
     let k = begun n core number in
-    stops n (lost k) core (lost_core k core (loss.Ended false) (Some 0)) old new refl (lost_shared k core (loss.Ended false) (Some 0)) (untouched_kept old new made.1.told)
+    stops n (lost k) core (lost_core k core (loss.Ended false) (Some 0)) old new (lost_is k) (lost_shared k core (loss.Ended false) (Some 0)) (untouched_kept old new made.1.told)
 
 -- a Thaw
 
@@ -289,11 +298,11 @@ own_known n core i within few may former =
     or_true false = refl
 
 -- the leader that has opened its own thread thaws the cluster
-thaw_opening : (n m : Inst) (core now : Core) (len : ℕ) (old mid new : State) → own_of m ≡ record (own_of n) { thread = empty_thread n.plan.me len; adopts = (own_of m).adopts }
-    → shared_of now ≡ telling_closed (record (shared_of core) { phase = phase.Thawed; former = without_inst core.recovery.former n.plan.me }) n.plan.me None
+thaw_opening : (n m : Inst) (core now : Core) (len : ℕ) (old mid new : State) → own_of m ≡ record (own_of n) { thread = empty_thread n.plan.me len; places = places_of m; adopts = (own_of m).adopts }
+    → Fewer (places_of n) (places_of m) → shared_of now ≡ telling_closed (record (shared_of core) { phase = phase.Thawed; former = without_inst core.recovery.former n.plan.me }) n.plan.me None
     → ThawMay n core → has core.recovery.former n.plan.me ≡ true → WritesRunning n.plan.me (scns_of n core) len written.Done old mid → Untouched mid new
     → Keeps n m core now old new
-thaw_opening n m core now len old mid new own shared may former made u owns i at small holds =
+thaw_opening n m core now len old mid new own fewer shared may former made u owns i at small holds =
     let h = was core owns old holds in
     let s = shared_of core in
     let me = (h.2.each i (own_of n) at).names.0 in
@@ -306,23 +315,25 @@ thaw_opening n m core now len old mid new own shared may former made u owns i at
     let r = u o.0 o.1 in
     let to = λ (t : ℕ). telling_closed (record s { phase = phase.Thawed; former = without_inst s.former t }) t None in
     let a = (own_of m).adopts in
+    let none = fewer_of_none (places_of n) (places_of m) fewer ((h.2.each i (own_of n) at).idle (closed_by_former s i was_former)).places in
     finish m now owns i new.told r.0 (to i) (record (opened_own f i (own_of n)) { adopts = a }) f r.1 (shared ∙ ap to me)
-    (own ∙ ap (λ (k : ℕ). record (own_of n) { thread = empty_thread n.plan.me k; adopts = a }) o.2.2) r.2
+    (own ∙ (λ j. record (own_of n) { thread = empty_thread n.plan.me (o.2.2 j); places = none j; adopts = a })) r.2
     (thawed_opening s f owns i (own_of n) a o.2.1 at few.1 was_former known (all_known n core h.2.members.few may) o.2.0)
 
 -- the leader, whose thread is open, thaws the cluster
-thaw_open : (n m : Inst) (core now : Core) (old new : State) → own_of m ≡ record (own_of n) { adopts = (own_of m).adopts }
-    → shared_of now ≡ record (shared_of core) { phase = phase.Thawed; former = without_inst core.recovery.former n.plan.me }
+thaw_open : (n m : Inst) (core now : Core) (old new : State) → own_of m ≡ record (own_of n) { places = places_of m; adopts = (own_of m).adopts }
+    → Fewer (places_of n) (places_of m) → shared_of now ≡ record (shared_of core) { phase = phase.Thawed; former = without_inst core.recovery.former n.plan.me }
     → ThawMay n core → has core.recovery.former n.plan.me ≡ false → Untouched old new → Keeps n m core now old new
-thaw_open n m core now old new own shared may former u owns i at small holds =
+thaw_open n m core now old new own fewer shared may former u owns i at small holds =
     let h = was core owns old holds in
     let s = shared_of core in
     let f = files_of h.0 in
     let me = (h.2.each i (own_of n) at).names.0 in
     let r = u h.0 h.1 in
     let to = λ (t : ℕ). record s { phase = phase.Thawed; former = without_inst s.former t } in
-    finish m now owns i new.told r.0 (to i) (record (own_of n) { adopts = (own_of m).adopts }) f r.1 (shared ∙ ap to me) own r.2
-    (thawed_open s f owns i (own_of n) (own_of m).adopts h.2 at (ap (has s.live) (sym me) ∙ may.live) (ap (has s.former) (sym me) ∙ former) (all_known n core h.2.members.few may))
+    finish m now owns i new.told r.0 (to i) (record (own_of n) { places = places_of m; adopts = (own_of m).adopts }) f r.1 (shared ∙ ap to me) own r.2
+    (thawed_open s f owns i (own_of n) (own_of m).adopts (places_of m) h.2 at (ap (has s.live) (sym me) ∙ may.live) (ap (has s.former) (sym me) ∙ former) (all_known n core h.2.members.few may)
+    fewer)
 
 -- the leader ends after its own thread was to be opened
 thaw_left : (n m : Inst) (core now : Core) (len : ℕ) (how : Written) (old mid new : State) → own_of m ≡ lost_own (own_of n)
@@ -340,21 +351,12 @@ thaw_left n m core now len how old mid new own shared may former made u owns i a
     let r = u o.now o.tells in
     left_unknown n m core now owns i new.told r.0 r.1 (subst (Logs s owns) (sym r.2) o.logs) at own shared small
 
-set_twice : {A : Type 0} (l : List A) (i : ℕ) (a b : A) → slice_set (slice_set l i a) i b ≡ slice_set l i b
-set_twice [] i a b = refl
-set_twice (x ∷ l) zero a b = refl
-set_twice {A = A} (x ∷ l) (suc i) a b = ap (λ (m : List A). x ∷ m) (set_twice l i a b)
-
-get_set : {A : Type 0} (l : List A) (i : ℕ) (a x : A) → slice_get l i ≡ Some x → slice_get (slice_set l i a) i ≡ Some a
-get_set [] i a x e = absurd (none-some x e)
-get_set (y ∷ l) zero a x e = refl
-get_set (y ∷ l) (suc i) a x e = get_set l i a x e
-
 own_empty : (s : Shared) (f : Files) (i : ℕ) (o : OwnPart) (len : ℕ) → AtOwn s f i o → open_in s i ≡ false → AtOwn s f i (record o { thread = empty_thread o.me len })
 own_empty s f i o len here shut = record {
   names = (here.names.0, here.names.0);
   log = λ op. absurd (no_way (open_in s i) op shut);
-  idle = λ cl. (let was = here.idle cl in record { up = was.up; none = was.none; empty = refl });
+  places = λ op. absurd (no_way (open_in s i) op shut);
+  idle = λ cl. (let was = here.idle cl in record { up = was.up; none = was.none; empty = refl; places = was.places });
   epoch = here.epoch;
   reads = here.reads;
 }
@@ -391,13 +393,13 @@ segments_untouched : (layout : Layout) (segs : List ℕ) (result : Result (List 
 segments_untouched layout segs (Ok owns) old new it = untouched_kept old new it.told
 segments_untouched layout segs (Err why) old new it = untouched_kept old new it.told
 
-thaw_own : (k : Inst) (core : Core) (owns : List SegmentState) → own_of (thaw_part k core owns) ≡ record (own_of k) { adopts = (own_of (thaw_part k core owns)).adopts }
+thaw_own : (k : Inst) (core : Core) (owns : List SegmentState) → own_of (thaw_part k core owns) ≡ record (own_of k) { places = places_of (thaw_part k core owns); adopts = (own_of (thaw_part k core owns)).adopts }
 unfolding led
 thaw_own k core owns = refl
 
-dealt_shared : (core : Core) (me : ℕ) (bound : Clock) → shared_of (dealt_core core me bound) ≡ record (shared_of core) { phase = phase.Thawed; former = without_inst core.recovery.former me }
-unfolding dealt_core
-dealt_shared core me bound = refl
+thaw_fewer : (k : Inst) (core : Core) (owns : List SegmentState) → Fewer (places_of k) (places_of (thaw_part k core owns))
+unfolding led
+thaw_fewer k core owns = taken_fewer (with_adopted k owns) (thaw_core k core)
 
 thaw_done : (n : Inst) (core : Core) (opening : Option Opened) (owns : List SegmentState) (b : Bool) (old mid new : State) → ThawMay n core → has core.recovery.former n.plan.me ≡ b
     → OpensIf b n.plan.me (scns_of n core) opening old mid → runs opening ≡ true → Untouched mid new
@@ -405,13 +407,13 @@ thaw_done : (n : Inst) (core : Core) (opening : Option Opened) (owns : List Segm
 thaw_done n core (Some (thread.Running len)) owns true old mid new may former made runs u =
     let k = opened_part n core (Some (thread.Running len)) in
     let c = opened_shared n core (Some (thread.Running len)) in
-    thaw_opening n (thaw_part k c owns) core (thaw_core k c) len old mid new (thaw_own k c owns) (dealt_shared c k.plan.me (bound_of k c)) may former made u
+    thaw_opening n (thaw_part k c owns) core (thaw_core k c) len old mid new (thaw_own k c owns) (thaw_fewer k c owns) (dealt_shared c k.plan.me (bound_of k c)) may former made u
 thaw_done n core (Some (thread.Unwritten len)) owns true old mid new may former made runs u = absurd (let no : false ≡ true = runs in cc)
 thaw_done n core (Some thread.Untold) owns true old mid new may former made runs u = absurd (let no : false ≡ true = runs in cc)
 thaw_done n core None owns true old mid new may former made runs u = absurd made
 thaw_done n core (Some how) owns false old mid new may former made runs u = absurd made
 thaw_done n core None owns false old mid new may former made runs u =
-    thaw_open n (thaw_part n core owns) core (thaw_core n core) old new (thaw_own n core owns) (dealt_shared core n.plan.me (bound_of n core)) may former
+    thaw_open n (thaw_part n core owns) core (thaw_core n core) old new (thaw_own n core owns) (thaw_fewer n core owns) (dealt_shared core n.plan.me (bound_of n core)) may former
     (untouched_then old mid new (untouched_same old mid made) u)
 
 thaw_stopped : (n : Inst) (core : Core) (opening : Option Opened) (bad b : Bool) (old mid new : State) → ThawMay n core → has core.recovery.former n.plan.me ≡ b
@@ -419,17 +421,17 @@ thaw_stopped : (n : Inst) (core : Core) (opening : Option Opened) (bad b : Bool)
     → Keeps n (lost (opened_part n core opening)) core (stop_core (opened_part n core opening) (opened_shared n core opening) bad) old new
 thaw_stopped n core (Some (thread.Running len)) bad true old mid new may former made u =
     let k = opened_part n core (Some (thread.Running len)) in
-    thaw_left_open n (lost k) core (stop_core k (with_closed core n.plan.me None) bad) len old mid new refl
+    thaw_left_open n (lost k) core (stop_core k (with_closed core n.plan.me None) bad) len old mid new (lost_is k)
     (lost_shared k (with_closed core n.plan.me None) (loss.Ended bad) (Some 0)) may former made u
 thaw_stopped n core (Some (thread.Unwritten len)) bad true old mid new may former made u =
-    thaw_left n (lost n) core (stop_core n (with_closed core n.plan.me None) bad) len written.Failed old mid new refl
+    thaw_left n (lost n) core (stop_core n (with_closed core n.plan.me None) bad) len written.Failed old mid new (lost_is n)
     (lost_shared n (with_closed core n.plan.me None) (loss.Ended bad) (Some 0)) may former made u
 thaw_stopped n core (Some thread.Untold) bad true old mid new may former made u =
-    stops n (lost n) core (stop_core n core bad) old new refl (lost_shared n core (loss.Ended bad) (Some 0)) (untouched_then old mid new (asks_untouched n.plan.me None old mid made) u)
+    stops n (lost n) core (stop_core n core bad) old new (lost_is n) (lost_shared n core (loss.Ended bad) (Some 0)) (untouched_then old mid new (asks_untouched n.plan.me None old mid made) u)
 thaw_stopped n core None bad true old mid new may former made u = absurd made
 thaw_stopped n core (Some how) bad false old mid new may former made u = absurd made
 thaw_stopped n core None bad false old mid new may former made u =
-    stops n (lost n) core (stop_core n core bad) old new refl (lost_shared n core (loss.Ended bad) (Some 0)) (untouched_then old mid new (untouched_same old mid made) u)
+    stops n (lost n) core (stop_core n core bad) old new (lost_is n) (lost_shared n core (loss.Ended bad) (Some 0)) (untouched_then old mid new (untouched_same old mid made) u)
 
 pub thaw_keeps : (n : Inst) (core : Core) (it : Thawed) (old new : State) → ThawMay n core → ThawsAs n core it old new → Keeps n (thaw n core it) core (thawed_core n core it) old new
 thaw_keeps n core (thawed.Done opening owns) old new may made =

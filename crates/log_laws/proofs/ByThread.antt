@@ -8,7 +8,7 @@ use Rattle.base_types.specs.declared.layout.Layout.{Layout}
 use Rattle.inst_state.specs.Shared.{is_live, closed_of}
 use Rattle.inst_state.specs.declared.inst.ReadThread.{ReadThread}
 use Rattle.log_laws.proofs.Cluster.{AtOwn, Files, Logs, Own as OwnPart, ReadOf, Shared, own_of, shared_of, EntryIs, left as left_shared, log_in, lost_own, open_in, put_control, put_log, files_of, ThreadAt, control_in, telling_closed}
-use Rattle.log_laws.proofs.Keeps.{Keeps, stops, untouched_kept, HoldsAt, few_insts}
+use Rattle.log_laws.proofs.Keeps.{Keeps, lost_is, stops, untouched_kept, HoldsAt, few_insts}
 use Rattle.log_laws.proofs.Moves.{own_moved, control_put, log_cut, log_put, no_way}
 use Rattle.log_laws.proofs.Thawing.{own_kept}
 use Rattle.log_laws.proofs.Quiet.{lost_shared, records_shared}
@@ -73,7 +73,7 @@ with_reads n core rs = record (own_of n) { epoch = core.members.epoch; reads = r
 own_reads : (n : Inst) (core : Core) (f : Files) (i : ℕ) (rs : List ReadThread) → AtOwn (shared_of core) f i (own_of n) → AllByRecursion (ReadOf (shared_of core) f) rs
     → AtOwn (shared_of core) f i (with_reads n core rs)
 own_reads n core f i rs here all =
-    own_kept (shared_of core) f i (own_of n) (with_reads n core rs) here refl refl (λ cl. ((here.idle cl).up, (here.idle cl).none)) (omega arith) (λ e. all)
+    own_kept (shared_of core) f i (own_of n) (with_reads n core rs) here refl refl (λ P a. a) (λ cl. ((here.idle cl).up, (here.idle cl).none)) (omega arith) (λ e. all)
 
 -- the entry that a read found is the one that is there
 pub found_entry : (s : Shared) (f : Files) (it : Content) (t : ℕ) (entry : ControlEntry) → files_of it ≡ f → ThreadAt s f t → HasEntry t entry it
@@ -143,10 +143,10 @@ pub read_keeps : (n : Inst) (core : Core) (thread : ℕ) (it : Found) (old new :
 read_keeps n core thread (found.Closed scns) old new few shut finds = read_closed n core thread scns old new few shut finds
 read_keeps n core thread (found.Whole log versions) old new few shut finds = read_whole n core thread log versions old new few finds
 read_keeps n core thread (found.Unread bad) old new few shut finds =
-    stops n (lost n) core (lost_core n core (loss.Ended bad) (Some 0)) old new refl (lost_shared n core (loss.Ended bad) (Some 0)) (untouched_kept old new finds.told)
+    stops n (lost n) core (lost_core n core (loss.Ended bad) (Some 0)) old new (lost_is n) (lost_shared n core (loss.Ended bad) (Some 0)) (untouched_kept old new finds.told)
 read_keeps n core thread (found.Stopped log bad) old new few shut finds =
     let mid = records_entered thread log.position log.read.records core in
-    stops n (lost n) core (lost_core n mid (loss.Ended bad) (Some 0)) old new refl
+    stops n (lost n) core (lost_core n mid (loss.Ended bad) (Some 0)) old new (lost_is n)
     (lost_shared n mid (loss.Ended bad) (Some 0) ∙ ap (λ (s : Shared). left_shared s n.plan.me) (records_shared thread log.position log.read.records core)) (untouched_kept old new finds.told)
 
 -- a thread is closed
@@ -246,7 +246,7 @@ close_keeps n core thread it old new few shut epoch made owns i at small holds =
 
     ended_logs : IsSmall ends.members.epoch → (c : Content) → new.told ≡ Some c → Logs s owns (files_of c) → HoldsAt (shared_of ends) (slice_set owns i (own_of (lost n))) new.told
     ended_logs small c told logs =
-        finish (lost n) ends owns i new.told c (left_shared s i) (lost_own (own_of n)) (files_of c) told is_left refl refl
+        finish (lost n) ends owns i new.told c (left_shared s i) (lost_own (own_of n)) (files_of c) told is_left (lost_is n) refl
         (inst_stopped s (files_of c) owns i (own_of n) logs at (few_insts s owns f i (own_of n) h.2 at).1 (subst IsSmall (ap (λ (x : Shared). x.epoch) is_left) small))
 
     by : (it : Closing) → ClosesLogAs thread entry it old new → IsSmall (closed_core_as n core thread entry it).members.epoch

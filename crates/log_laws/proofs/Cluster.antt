@@ -20,6 +20,7 @@ use Rattle.inst_state.specs.State.{is_up}
 use Rattle.inst_loss.specs.Lost.{lost_thread}
 use Rattle.log_history.specs.Logs.{IsRight}
 use Rattle.log_laws.specs.Logs.{IsWhole}
+use Rattle.log_laws.proofs.Places.{places_of}
 
 -- what the instances share that tells of the logs
 pub record Shared : Type 0 where
@@ -34,6 +35,7 @@ pub record Shared : Type 0 where
 pub record Own : Type 0 where
   pub me : ℕ
   pub thread : ThreadState
+  pub places : List ℕ
   pub up : Bool
   pub adopts : ℕ
   pub epoch : ℕ
@@ -58,6 +60,7 @@ abbrev pub own_of : Inst → Own
 own_of n = record {
   me = n.plan.me;
   thread = n.thread;
+  places = places_of n;
   up = is_up n.life;
   adopts = length n.leading.adopted;
   epoch = n.leading.recovering.epoch;
@@ -89,7 +92,7 @@ put_control f t bytes = record f { controls = slice_set f.controls t bytes }
 
 -- what an instance has that has ended
 abbrev pub lost_own : Own → Own
-lost_own o = record { me = o.me; thread = lost_thread o.me o.thread; up = false; adopts = 0; epoch = 0; reads = [] }
+lost_own o = record { me = o.me; thread = lost_thread o.me o.thread; places = []; up = false; adopts = 0; epoch = 0; reads = [] }
 
 -- the membership once an instance isn't live any more
 abbrev pub left : Shared → ℕ → Shared
@@ -144,9 +147,15 @@ pub record Members (s : Shared) : Type 0 where
   pub former : (i : ℕ) → has s.former i ≡ true → Alone s i
   pub settled : is_settled s.phase ≡ true → (i : ℕ) → i < s.instances → has s.live i ≡ false → known_in s i ≡ true
 
--- The log and what waits behind it are whole records.
+-- A place is the end of one of these whole records, or their beginning.
+pub record IsEndIn (bytes : List ℕ) (place : ℕ) : Type 0 where
+  pub within : place ≤ length bytes
+  pub whole : IsWhole (take place bytes)
+
+-- The log is whole records, also with what waits behind it.
 pub record LogOf (log : List ℕ) (i : ℕ) (thread : ThreadState) : Type 0 where
   pub durable : thread.durable ≡ length log
+  pub behind : IsWhole log
   pub whole : IsWhole (log ++ thread.waiting)
   pub short : length log + length thread.waiting < 2 ^ 63
 
@@ -155,6 +164,7 @@ pub record Idle (o : Own) : Type 0 where
   pub up : o.up ≡ false
   pub none : o.adopts ≡ 0
   pub empty : o.thread.waiting ≡ []
+  pub places : o.places ≡ []
 
 -- A thread was read up to the end of a record, unless it is open again.
 abbrev pub ReadOf : Shared → Files → ReadThread → Type 0
@@ -164,6 +174,7 @@ ReadOf s f r = (r.behind < 256 ^ 8) × (open_in s r.thread ≡ false → IsWhole
 pub record AtOwn (s : Shared) (f : Files) (i : ℕ) (o : Own) : Type 0 where
   pub names : (o.me ≡ i) × (o.thread.number ≡ i)
   pub log : open_in s i ≡ true → LogOf (log_in f i) i o.thread
+  pub places : open_in s i ≡ true → AllByRecursion (IsEndIn (log_in f i ++ o.thread.waiting)) o.places
   pub idle : open_in s i ≡ false → Idle o
   pub epoch : o.epoch ≤ s.epoch
   pub reads : o.epoch ≡ s.epoch → AllByRecursion (ReadOf s f) o.reads

@@ -37,7 +37,7 @@ closed_known s f owns t scns logs cl whole = record {
   });
   sizes = logs.sizes;
   threads = λ u small. at u small (cases_eq u t);
-  each = λ j x there. (let was = logs.each j x there in record { names = was.names; log = was.log; idle = was.idle; epoch = was.epoch; reads = was.reads });
+  each = λ j x there. (let was = logs.each j x there in record { names = was.names; log = was.log; places = was.places; idle = was.idle; epoch = was.epoch; reads = was.reads });
 }
   where
     at : (u : ℕ) → u < 8 → (u ≡ t) ⊎ (u ≡ t → ⊥) → ThreadAt (telling_closed s t (Some scns)) f u
@@ -73,7 +73,7 @@ closed_unknown s f owns t logs unsettled = record {
   });
   sizes = logs.sizes;
   threads = λ u small. thread_on s (telling_closed s t None) f f u refl refl refl (λ k. unknown_still s t u k (cases_eq u t)) (logs.threads u small);
-  each = λ j x there. (let was = logs.each j x there in record { names = was.names; log = was.log; idle = was.idle; epoch = was.epoch; reads = was.reads });
+  each = λ j x there. (let was = logs.each j x there in record { names = was.names; log = was.log; places = was.places; idle = was.idle; epoch = was.epoch; reads = was.reads });
 }
 
 -- what is live once an instance has come in
@@ -95,11 +95,12 @@ open_thread s f i old entry = record {
 
 -- the part of an instance whose thread was opened
 abbrev pub opened_own : Files → ℕ → Own → Own
-opened_own f i o = record o { thread = empty_thread o.me (length (log_in f i)) }
+opened_own f i o = record o { thread = empty_thread o.me (length (log_in f i)); places = [] }
 
 pub open_log : (s : Shared) (f : Files) (i : ℕ) (o : Own) → ThreadAt s f i → IsWhole (log_in f i) → LogOf (log_in f i) i (empty_thread o.me (length (log_in f i)))
 open_log s f i o old whole = record {
   durable = refl;
+  behind = whole;
   whole = same_whole (log_in f i) (log_in f i ++ []) (sym (append-nil (log_in f i))) whole;
   short = (let h = old.short in omega (arith, h));
 }
@@ -162,6 +163,7 @@ inst_joined s f owns i o up logs there within few small running gone entry =
     own = record {
       names = (at.names.0, at.names.0);
       log = λ op. open_log s f i o (logs.threads i few) whole;
+      places = λ op. tt;
       idle = λ cl. absurd (no_way (open_in now i) opens cl);
       epoch = (let a = at.epoch in let b = epoch_up s.epoch small in omega (arith, a, b));
       reads = reads_on s now f f o.epoch o.reads (inr (epoch_up s.epoch small)) at.epoch at.reads;
@@ -228,7 +230,8 @@ inst_came_dark s f owns i o logs there few small dark =
     own = record {
       names = at.names;
       log = λ op. absurd (no_way (open_in now i) op shut);
-      idle = λ cl. record { up = refl; none = (at.idle (was_shut i)).none; empty = (at.idle (was_shut i)).empty };
+      places = λ op. absurd (no_way (open_in now i) op shut);
+      idle = λ cl. (let was = at.idle (was_shut i) in record { up = refl; none = was.none; empty = was.empty; places = was.places });
       epoch = (let a = at.epoch in let b = epoch_up s.epoch small in omega (arith, a, b));
       reads = reads_on s now f f o.epoch o.reads (inr (epoch_up s.epoch small)) at.epoch at.reads;
     }

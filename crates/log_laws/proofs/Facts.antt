@@ -11,7 +11,6 @@ use Rattle.redo_thread.specs.Thread.{end_of}
 use Rattle.base_types.specs.declared.names.Xid.{Xid}
 use Rattle.undo_segment.specs.Segment.{SegmentState}
 use Rattle.inst_set.specs.Sets.{all_insts, count_below, has}
-use Rattle.rac_disk.specs.Content.{Content}
 use Rattle.block_image.specs.Block.{BlockContent}
 use Rattle.recovery.specs.declared.members.Phase.{Phase}
 use Rattle.recovery.specs.declared.members.Phase.TheVariants as phase
@@ -45,24 +44,25 @@ use Rattle.inst_node.specs.declared.actions.SessionStep.TheVariants as session
 use Rattle.inst_node.specs.Allowed.{is_allowed, is_frozen_before_report, kind_class, runs}
 use Rattle.inst_node.specs.Moves.{comes_after_thaw, counted, prepared, prepared_if}
 use Rattle.inst_node.specs.Needs.{action_needs, dead_needs, inst_needs, is_by_line, line_needs, needs, plain_needs, session_needs}
-use Rattle.log_laws.specs.Sound.{IsSound}
 use Rattle.inst_node.specs.Made.{record_made}
 use Rattle.log_laws.proofs.ByKind.{CanRecord, LineMay, MayMakeRedo, PlainMay, ThreadMay}
+use Rattle.log_laws.proofs.Eases.{taken_eases}
+use Rattle.log_laws.proofs.Keeps.{Eased, eased_where_same}
 use Rattle.log_laws.proofs.ByOpen.{ThawMay}
 use Rattle.log_laws.proofs.ByThread.{dead_shut}
-use Rattle.log_laws.proofs.Cluster.{Own as OwnPart, own_of, shared_of}
+use Rattle.log_laws.proofs.Cluster.{Own as OwnPart, shared_of}
 use Rattle.log_laws.proofs.Sets.{found_fits}
 
 -- the instance that is ready, and the shared part with the step counted
 
-pub prepared_own : (n : Inst) (core : Core) (action : Action) → own_of (prepared n core action) ≡ own_of n
+pub prepared_eases : (n : Inst) (core : Core) (action : Action) → Eased n (prepared n core action)
 unfolding prepared
-prepared_own n core action = by (comes_after_thaw (kind_class action)) (is_thawed core.members.phase)
+prepared_eases n core action = by (comes_after_thaw (kind_class action)) (is_thawed core.members.phase)
   where
-    by : (after thawed : Bool) → own_of (prepared_if after thawed n core) ≡ own_of n
-    by false thawed = refl
-    by true false = refl
-    by true true = refl
+    by : (after thawed : Bool) → Eased n (prepared_if after thawed n core)
+    by false thawed = eased_where_same n n refl
+    by true false = eased_where_same n n refl
+    by true true = taken_eases n core
 
 pub counted_shared : (core : Core) (me : ℕ) (action : Action) → shared_of (counted core me action) ≡ shared_of core
 unfolding counted
@@ -107,46 +107,46 @@ back_some n (Some x) None image redo e = absurd (none-some redo e)
 redo_is : (o : Option Redo) (redo : Redo) → IfSome o IsRedo → o ≡ Some redo → IsRedo redo
 redo_is o redo all e = subst (λ (x : Option Redo). IfSome x IsRedo) e all
 
-pub session_may : (n : Inst) (core : Core) (kind : SessionStep) (z : ℕ) (told : Option Content) → needs n core (Session kind z) ≡ true
-    → IsSound (prepared n core (Session kind z)) core (Session kind z) told → MayMakeRedo (prepared n core (Session kind z)) (Session kind z)
+pub session_may : (n : Inst) (core : Core) (kind : SessionStep) (z : ℕ) → needs n core (Session kind z) ≡ true
+    → IfSome (record_made (prepared n core (Session kind z)) (Session kind z)) IsRedo → MayMakeRedo (prepared n core (Session kind z)) (Session kind z)
 unfolding prepared session_needs
-session_may n core session.Change z told may sound redo e = (
+session_may n core session.Change z may is redo e = (
   works_record n (is_decided (change_decided n z)) (and_parts (is_allowed n core (Session session.Change z)) (works n && has_room n && is_decided (change_decided n z)) may).1,
-  redo_is (record_made n (Session session.Change z)) redo sound.redo e,
+  redo_is (record_made n (Session session.Change z)) redo is e,
 )
-session_may n core session.Mark z told may sound redo e =
+session_may n core session.Mark z may is redo e =
     let a = (and_parts (is_allowed n core (Session session.Mark z)) (works n && has_room n && not (is_stopped n z) && is_some (end_decided n z)) may).1 in
     let b = (and_parts (works n && has_room n && not (is_stopped n z)) (is_some (end_decided n z)) a).0 in
-    (works_record n (not (is_stopped n z)) b, redo_is (record_made n (Session session.Mark z)) redo sound.redo e)
-session_may n core session.StepBack z told may sound redo e = (
+    (works_record n (not (is_stopped n z)) b, redo_is (record_made n (Session session.Mark z)) redo is e)
+session_may n core session.StepBack z may is redo e = (
   works_record n (is_some (record_of (back_decided n z))) (and_parts (is_allowed n core (Session session.StepBack z)) (works n && has_room n && is_some (record_of (back_decided n z))) may).1,
-  redo_is (record_made n (Session session.StepBack z)) redo sound.redo e,
+  redo_is (record_made n (Session session.StepBack z)) redo is e,
 )
-session_may n core session.StartStmt z told may sound redo e = absurd (none-some redo e)
-session_may n core session.Visit z told may sound redo e = absurd (none-some redo e)
-session_may n core session.EndStmt z told may sound redo e = absurd (none-some redo e)
-session_may n core session.AskUndo z told may sound redo e = absurd (none-some redo e)
-session_may n core session.Broadcast z told may sound redo e = absurd (none-some redo e)
-session_may n core session.Ack z told may sound redo e = absurd (none-some redo e)
+session_may n core session.StartStmt z may is redo e = absurd (none-some redo e)
+session_may n core session.Visit z may is redo e = absurd (none-some redo e)
+session_may n core session.EndStmt z may is redo e = absurd (none-some redo e)
+session_may n core session.AskUndo z may is redo e = absurd (none-some redo e)
+session_may n core session.Broadcast z may is redo e = absurd (none-some redo e)
+session_may n core session.Ack z may is redo e = absurd (none-some redo e)
 
 dead_room : (n : Inst) (job : ℕ) (rest : Bool) → (has_room n && is_job job (dead_txn n) && rest) ≡ true → end_of n.thread < 2 ^ 62
 dead_room n job rest e =
     let a = and_parts (has_room n && is_job job (dead_txn n)) rest e in room_of n (and_parts (has_room n) (is_job job (dead_txn n)) a.0).0
 
-pub dead_may : (n : Inst) (core : Core) (kind : DeadStep) (job : ℕ) (told : Option Content) → needs n core (Dead kind job) ≡ true
-    → IsSound (prepared n core (Dead kind job)) core (Dead kind job) told → MayMakeRedo (prepared n core (Dead kind job)) (Dead kind job)
+pub dead_may : (n : Inst) (core : Core) (kind : DeadStep) (job : ℕ) → needs n core (Dead kind job) ≡ true
+    → IfSome (record_made (prepared n core (Dead kind job)) (Dead kind job)) IsRedo → MayMakeRedo (prepared n core (Dead kind job)) (Dead kind job)
 unfolding prepared dead_needs
-dead_may n core dead.Mark job told may sound redo e =
+dead_may n core dead.Mark job may is redo e =
     let a = (and_parts (is_allowed n core (Dead dead.Mark job)) (has_room n && is_job job (dead_txn n) && is_some (dead_end_decided n)) may).1 in (
       record { may = inr (dead_adopted n (dead_segment n) refl (end_some n (dead_txn n) (dead_segment n) redo e)); room = dead_room n job (is_some (dead_end_decided n)) a },
-      redo_is (record_made n (Dead dead.Mark job)) redo sound.redo e,
+      redo_is (record_made n (Dead dead.Mark job)) redo is e,
     )
-dead_may n core dead.StepBack job told may sound redo e =
+dead_may n core dead.StepBack job may is redo e =
     let a = (and_parts (is_allowed n core (Dead dead.StepBack job)) (has_room n && is_job job (dead_txn n) && is_some (record_of (dead_back_decided n))) may).1 in (
       record { may = inr (dead_adopted n (dead_segment n) refl (back_some n (dead_txn n) (dead_segment n) (needed_image n (dead_needed n)) redo e)); room = dead_room n job (is_some (record_of (dead_back_decided n))) a },
-      redo_is (record_made n (Dead dead.StepBack job)) redo sound.redo e,
+      redo_is (record_made n (Dead dead.StepBack job)) redo is e,
     )
-dead_may n core dead.AskUndo job told may sound redo e = absurd (none-some redo e)
+dead_may n core dead.AskUndo job may is redo e = absurd (none-some redo e)
 
 -- threads
 
@@ -221,29 +221,34 @@ due_live core me number e = by (is_live core me) e
     by true e = refl
     by false e = absurd (let no : false ≡ true = e in cc)
 
-pub line_may : (n : Inst) (core : Core) (kind : LineStep) (number : ℕ) (told : Option Content) → needs n core (Line kind number) ≡ true
-    → IsSound (prepared n core (Line kind number)) core (Line kind number) told
-    → LineMay (prepared n core (Line kind number)) (counted core n.plan.me (Line kind number)) kind told
-unfolding prepared counted line_needs
-line_may n core line.Crash number told may sound =
-    due_live core n.plan.me number (and_parts (is_allowed n core (Line line.Crash number)) (is_by_line number (due_crash core n.plan.me)) may).1
-line_may n core line.Checkpoint number told may sound = sound.position refl
-line_may n core line.Join number told may sound =
-    let a = (and_parts (is_allowed n core (Line line.Join number)) (may_join n core number) may).1 in
-    let b = and_parts (asks_start n.plan.me (open_control core number) && not (is_live core n.plan.me)) (is_open_to_joins core) a in
-    let c = and_parts (asks_start n.plan.me (open_control core number)) (not (is_live core n.plan.me)) b.0 in
-    record { gone = not_true (is_live core n.plan.me) c.1; opens = b.1 }
-line_may n core line.SendBucket number told may sound = tt
-line_may n core line.KeepBucket number told may sound = tt
-line_may n core line.Skip number told may sound = tt
-
--- an instance alone
-
 phase_running : (p : Phase) → is_running p ≡ true → p ≡ phase.Running
 phase_running phase.Running e = refl
 phase_running phase.Frozen e = absurd (let no : false ≡ true = e in cc)
 phase_running phase.Thawed e = absurd (let no : false ≡ true = e in cc)
 phase_running phase.Dark e = absurd (let no : false ≡ true = e in cc)
+
+prepared_me : (n : Inst) (core : Core) (action : Action) → (prepared n core action).plan.me ≡ n.plan.me
+prepared_me n core action = ap (λ (o : OwnPart). o.me) (prepared_eases n core action).own
+
+pub line_may : (n : Inst) (core : Core) (kind : LineStep) (number : ℕ) → needs n core (Line kind number) ≡ true
+    → LineMay (prepared n core (Line kind number)) (counted core n.plan.me (Line kind number)) kind
+unfolding prepared counted line_needs
+line_may n core line.Crash number may =
+    due_live core n.plan.me number (and_parts (is_allowed n core (Line line.Crash number)) (is_by_line number (due_crash core n.plan.me)) may).1
+line_may n core line.Checkpoint number may =
+    let a = (and_parts (is_allowed n core (Line line.Checkpoint number)) (line_needs n core line.Checkpoint number) may).0 in
+    let b = and_parts (is_live core n.plan.me) (runs n core) a in
+    (ap (is_live core) (prepared_me n core (Line line.Checkpoint number)) ∙ b.0, phase_running core.members.phase (and_parts (is_running core.members.phase) (not n.paused) b.1).0)
+line_may n core line.Join number may =
+    let a = (and_parts (is_allowed n core (Line line.Join number)) (may_join n core number) may).1 in
+    let b = and_parts (asks_start n.plan.me (open_control core number) && not (is_live core n.plan.me)) (is_open_to_joins core) a in
+    let c = and_parts (asks_start n.plan.me (open_control core number)) (not (is_live core n.plan.me)) b.0 in
+    record { gone = not_true (is_live core n.plan.me) c.1; opens = b.1 }
+line_may n core line.SendBucket number may = tt
+line_may n core line.KeepBucket number may = tt
+line_may n core line.Skip number may = tt
+
+-- an instance alone
 
 phase_thawed : (p : Phase) → is_thawed p ≡ true → p ≡ phase.Thawed
 phase_thawed phase.Thawed e = refl
@@ -271,9 +276,6 @@ allowed_live n core e =
 force_may : (n : Inst) (core : Core) → needs n core (Plain plain.Force) ≡ true → is_live core n.plan.me ≡ true
 force_may n core may = allowed_live n core (and_parts (is_allowed n core (Plain plain.Force)) (action_needs n core (Plain plain.Force)) may).0
 
-prepared_me : (n : Inst) (core : Core) (action : Action) → (prepared n core action).plan.me ≡ n.plan.me
-prepared_me n core action = ap (λ (o : OwnPart). o.me) (prepared_own n core action)
-
 counted_live : (core : Core) (me who : ℕ) (action : Action) → is_live (counted core me action) who ≡ is_live core who
 unfolding counted
 counted_live core me who action = refl
@@ -289,12 +291,13 @@ thaw_may n core e =
       closed = λ t few. not_true (is_dead core t) (at_all (λ thread. not (is_dead core thread)) (closed_all n core a.1) t few);
     }
 
-reopen_may : (n : Inst) (core : Core) → may_reopen n core ≡ true → (counted core n.plan.me (Plain plain.Reopen)).members.phase ≡ phase.Thawed
-unfolding counted
+reopen_may : (n : Inst) (core : Core) → may_reopen n core ≡ true
+    → ((counted core n.plan.me (Plain plain.Reopen)).members.phase ≡ phase.Thawed) × (list_all is_done (prepared n core (Plain plain.Reopen)).leading.adopted ≡ true)
+unfolding prepared counted
 reopen_may n core e =
     let a = and_parts (is_ready_but_forced n core) (is_forced n) e in
     let b = and_parts (is_thawed core.members.phase && is_led_by core n.plan.me) (list_all is_done n.leading.adopted) a.0 in
-    phase_thawed core.members.phase (and_parts (is_thawed core.members.phase) (is_led_by core n.plan.me) b.0).0
+    (phase_thawed core.members.phase (and_parts (is_thawed core.members.phase) (is_led_by core n.plan.me) b.0).0, b.1)
 
 resume_may : (n : Inst) (core : Core) → may_resume n core ≡ true
     → (is_live (counted core n.plan.me (Plain plain.Resume)) (prepared n core (Plain plain.Resume)).plan.me ≡ true) × ((counted core n.plan.me (Plain plain.Resume)).members.phase ≡ phase.Running)

@@ -1,5 +1,5 @@
 -- The logs are right before the first step.
-use Rattle.std.proofs.Common.{◌≡◌, ℕ, zero, suc, ◌<◌, ◌≤◌, ◌&&◌, not, Bool, true, false, List, [], ◌∷◌, ◌++◌, length, map, take, Option, None, Some, slice_get, if◌then◌else◌, refl, sym, ap, subst, ◌∙◌, ◌⊎◌, inl, inr, arith}
+use Rattle.std.proofs.Common.{◌≡◌, ℕ, zero, suc, ◌+◌, ◌<◌, ◌≤◌, ◌&&◌, not, Bool, true, false, List, [], ◌∷◌, ◌++◌, length, map, take, Option, None, Some, slice_get, if◌then◌else◌, refl, sym, ap, subst, ◌∙◌, ◌⊎◌, inl, inr, arith}
 use Rattle.std.specs.Prelude.{IsSomeAnd, is_some, nat_lt, slice_index_or}
 use Rattle.std.proofs.lemmas.Bool.{cases_lt, lt-ltb, ltb-true}
 use Rattle.std.proofs.lemmas.List.{append-nil, length-map}
@@ -20,7 +20,12 @@ use Rattle.inst_state.specs.Shared.{insts_below}
 use Rattle.first_state.specs.declared.creation.Created.TheVariants as created
 use Rattle.first_state.specs.Core.{closed_at, first_core}
 use Rattle.first_state.specs.Create.{IsNew, LeavesNew, entry_bytes_of, first_entry, first_status}
+use Rattle.first_state.specs.Inst.{first_inst}
 use Rattle.first_state.specs.Plan.{PlanParts, layout_of}
+use Rattle.std.specs.List.{AllByRecursion}
+use Rattle.inst_state.specs.declared.plan.Plan.{Plan}
+use Rattle.undo_segment.specs.New.{new_segment}
+use Rattle.log_laws.proofs.Places.{clean_none, empty_none, places_of}
 use Rattle.world_machine.specs.declared.worlds.World.{World}
 use Rattle.cluster_run.specs.First.{IsFirst, IsFirstWorld}
 use Rattle.cluster_run.specs.Runs.{IsCreated}
@@ -28,10 +33,10 @@ use Rattle.log_history.specs.Logs.{IsFirstWrong, IsRight}
 use Rattle.line_laws.proofs.Worlds.{first_at_place}
 use Rattle.log_laws.specs.Logs.{HasGoodLogs, HasRightLogs}
 use Rattle.log_laws.proofs.Bytes.{not_wrong, nothing_whole, right_where_whole}
-use Rattle.log_laws.proofs.Cluster.{AtOwn, Files, Logs, Members, Own, Shared, ThreadAt, control_in, files_of, known_in, log_in, open_in, own_of, shared_of}
+use Rattle.log_laws.proofs.Cluster.{AtOwn, Files, IsEndIn, Logs, Members, Own, Shared, ThreadAt, control_in, files_of, known_in, log_in, open_in, own_of, shared_of}
 use Rattle.log_laws.proofs.Keeps.{and_some, some_and}
 use Rattle.log_laws.proofs.Moves.{closed_where, no_way}
-use Rattle.log_laws.proofs.Runs.{Holds, get_map, map_get}
+use Rattle.log_laws.proofs.Worlds.{Holds, get_map, map_get}
 use Rattle.first_state.specs.Core.{start}
 
 below_has : (n i : ℕ) → i < n → n ≤ 8 → has (insts_below n) i ≡ true
@@ -164,6 +169,10 @@ first_thread layout t f few small none control (inr past) = record {
 }
 
 -- an instance that has made nothing
+first_places : (sessions : ℕ) (masters : Masters) (plan : Plan) → places_of (first_inst sessions masters plan) ≡ []
+first_places sessions masters plan =
+    λ k. clean_none (1 + length (new_segment plan.layout plan.me).blocks) k ++ empty_none plan.frames plan.blocks k
+
 first_own : (script : ScriptParts) (masters : Masters) (i : ℕ) (n : Inst) (f : Files) → script.settings.instances ≤ 8 → i < script.settings.instances
     → IsFirst script masters i n → log_in f i ≡ [] → AtOwn (First script.settings.instances) f i (own_of n)
 first_own script masters i n f few within first none =
@@ -173,9 +182,11 @@ first_own script masters i n f few within first none =
       names = (me, me);
       log = λ op. record {
         durable = ap length (sym none);
+        behind = nothing_whole (log_in f i) none;
         whole = nothing_whole (log_in f i ++ []) (append-nil (log_in f i) ∙ none);
         short = (let e = ap length none in omega (arith, e));
       };
+      places = λ op. subst (AllByRecursion (IsEndIn (log_in f i ++ []))) (sym (first_places (length script.names) masters n.plan)) tt;
       idle = λ cl. absurd (no_way (open_in (First script.settings.instances) i) (first_open script.settings.instances i within few) cl);
       epoch = omega arith;
       reads = λ e. tt;
@@ -236,7 +247,3 @@ none_wrong (log ∷ l) right (suc thread) place wrong = none_wrong l (λ k h. ri
 pub good_logs : (w : World) (it : Content) → Logs (shared_of w.core) (map own_of w.insts) (files_of it) → HasGoodLogs it
 good_logs w it logs thread place wrong =
     none_wrong it.logs (λ k h. (logs.threads k (let e = logs.sizes.0 in omega (arith, h, e))).right) thread place wrong
-
-pub and_on : (P Q : Content → Type 0) (told : Option Content) → ((it : Content) → P it → Q it) → IsSomeAnd told P → IsSomeAnd told Q
-and_on P Q None on h = absurd h
-and_on P Q (Some it) on h = on it h

@@ -1,5 +1,5 @@
 -- What a kind of step leaves of the logs.
-use Rattle.std.proofs.Common.{◌≡◌, ℕ, zero, suc, ◌^◌, ◌<◌, ◌≤◌, Bool, true, false, List, [], ◌∷◌, length, Option, None, Some, slice_get, refl, sym, ap, subst, ◌∙◌, ◌⊎◌, inl, inr, arith}
+use Rattle.std.proofs.Common.{◌≡◌, ℕ, zero, suc, ◌^◌, ◌<◌, ◌≤◌, Bool, true, false, List, [], ◌∷◌, ◌++◌, length, Option, None, Some, slice_get, refl, sym, ap, subst, ◌∙◌, ◌⊎◌, inl, inr, arith}
 use Rattle.std.specs.Prelude.{IsSomeAnd, IfSome, slice_set, Result, Ok, Err}
 use Rattle.std.proofs.lemmas.Option.{none-some, same_Some, slice_get_within}
 use Rattle.redo_types.specs.declared.redo.Redo.{Redo}
@@ -14,7 +14,10 @@ use Rattle.inst_state.specs.State.{is_up}
 use Rattle.log_laws.proofs.Cluster.{AtOwn, Files, Logs, Own, Shared, files_of, left, lost_own, open_in, own_of, shared_of}
 use Rattle.log_laws.proofs.Leaving.{IsSmall, inst_stopped}
 use Rattle.log_laws.proofs.Moves.{own_moved}
-use Rattle.log_laws.proofs.Thawing.{own_records}
+use Rattle.log_laws.proofs.Thawing.{own_kept, own_records}
+use Rattle.log_laws.proofs.Places.{Fewer, OneMore, clean_none, empty_none, places_of}
+use Rattle.std.specs.List.{AllByRecursion}
+use Rattle.inst_loss.specs.Lost.{lost}
 
 -- The logs are right, where the disk tells what it holds; and it does.
 abbrev pub HoldsAt : Shared → List Own → Option Content → Type 0
@@ -26,6 +29,10 @@ some_and P (Some it) h = (it, refl, h)
 
 pub and_some : (P : Content → Type 0) (told : Option Content) (it : Content) → told ≡ Some it → P it → IsSomeAnd told P
 and_some P told it e h = subst (λ (o : Option Content). IsSomeAnd o P) (sym e) h
+
+pub and_on : (P Q : Content → Type 0) (told : Option Content) → ((it : Content) → P it → Q it) → IsSomeAnd told P → IsSomeAnd told Q
+and_on P Q None on h = absurd h
+and_on P Q (Some it) on h = on it h
 
 -- What a step of an instance leaves of the logs: where they were right they are.
 abbrev pub Keeps : Inst → Inst → Core → Core → State → State → Type 0
@@ -114,6 +121,44 @@ held n m core now old new owns i untouched holds moves =
     and_some (λ (it : Content). Logs (shared_of now) (slice_set owns i (own_of m)) (files_of it)) new.told u.0 u.1
     (moves (files_of u.0) (subst (λ (f : Files). Logs (shared_of core) owns f) (sym u.2) h.2))
 
+-- What an instance has is the same but for places, and of those there are no more.
+pub record Eased (n m : Inst) : Type 1 where
+  pub own : own_of m ≡ record (own_of n) { places = places_of m }
+  pub fewer : Fewer (places_of n) (places_of m)
+
+pub eased_where_same : (n m : Inst) → own_of m ≡ own_of n → Eased n m
+eased_where_same n m own = record {
+  own = own ∙ ap (λ (places : List ℕ). record (own_of n) { places = places }) (sym (ap (λ (o : Own). o.places) own));
+  fewer = λ P a. subst (AllByRecursion P) (sym (ap (λ (o : Own). o.places) own)) a;
+}
+
+pub eased_then : (n k m : Inst) → Eased n k → Eased k m → Eased n m
+eased_then n k m a b = record {
+  own = b.own ∙ ap (λ (o : Own). record o { places = places_of m }) a.own;
+  fewer = λ P all. b.fewer P (a.fewer P all);
+}
+
+-- what holds where an instance has fewer places
+pub eased_logs : (s : Shared) (f : Files) (owns : List Own) (i : ℕ) (n m : Inst) → Eased n m → slice_get owns i ≡ Some (own_of n) → Logs s owns f
+    → Logs s (slice_set owns i (own_of m)) f
+eased_logs s f owns i n m eased at logs =
+    let here = logs.each i (own_of n) at in
+    let p : Own = record (own_of n) { places = places_of m } in
+    subst (λ (o : Own). Logs s (slice_set owns i o) f) (sym eased.own)
+    (own_moved s f owns i p logs (own_kept s f i (own_of n) p here refl refl eased.fewer (λ cl. ((here.idle cl).up, (here.idle cl).none)) here.epoch here.reads))
+
+-- a step that changes nothing of the logs, and adds no place
+pub eases : (n m : Inst) (core now : Core) (old new : State) → Eased n m → shared_of now ≡ shared_of core → Untouched old new → Keeps n m core now old new
+eases n m core now old new eased shared untouched owns i at small holds =
+    held n m core now old new owns i untouched holds (λ f logs.
+    subst (λ (s : Shared). Logs s (slice_set owns i (own_of m)) f) (sym shared) (eased_logs (shared_of core) f owns i n m eased at logs))
+
+-- an instance that has ended has no redo left that the disk may lack
+pub lost_is : (n : Inst) → own_of (lost n) ≡ lost_own (own_of n)
+lost_is n =
+    ap (λ (places : List ℕ). record (lost_own (own_of n)) { places = places })
+    (λ k. clean_none (length n.segment.since) k ++ empty_none n.plan.frames n.plan.blocks k)
+
 -- a step by which the instance ends, and nothing of the logs changes
 pub stops : (n m : Inst) (core now : Core) (old new : State) → own_of m ≡ lost_own (own_of n) → shared_of now ≡ left (shared_of core) n.plan.me → Untouched old new
     → Keeps n m core now old new
@@ -139,12 +184,14 @@ opens_to_record s f i n at may = by (open_in s i) refl may
     by false e (inr some) = absurd (let none = (at.idle e).none in omega (arith, none, some))
 
 -- a step that makes a record
-pub records : (n m : Inst) (core now : Core) (old new : State) (redo : Redo) → own_of m ≡ record (own_of n) { thread = appended n.thread redo } → MayRecord n
-    → IsRedo redo → end_of n.thread < 2 ^ 62 → shared_of now ≡ shared_of core → Untouched old new → Keeps n m core now old new
-records n m core now old new redo own may is room shared untouched owns i at small holds =
+pub records : (n m : Inst) (core now : Core) (old new : State) (redo : Redo) → own_of m ≡ record (own_of n) { thread = appended n.thread redo; places = places_of m }
+    → OneMore (end_of n.thread) (places_of n) (places_of m) → MayRecord n → IsRedo redo → end_of n.thread < 2 ^ 62 → shared_of now ≡ shared_of core → Untouched old new
+    → Keeps n m core now old new
+records n m core now old new redo own more may is room shared untouched owns i at small holds =
     held n m core now old new owns i untouched holds (λ f logs. (
     let here = logs.each i (own_of n) at in
+    let p : Own = record (own_of n) { thread = appended n.thread redo; places = places_of m } in
     subst (λ (o : Own). Logs (shared_of now) (slice_set owns i o) f) (sym own)
-    (subst (λ (s : Shared). Logs s (slice_set owns i (record (own_of n) { thread = appended n.thread redo })) f) (sym shared)
-    (own_moved (shared_of core) f owns i (record (own_of n) { thread = appended n.thread redo }) logs
-    (own_records (shared_of core) f i (own_of n) redo here (opens_to_record (shared_of core) f i n here may) is room)))))
+    (subst (λ (s : Shared). Logs s (slice_set owns i p) f) (sym shared)
+    (own_moved (shared_of core) f owns i p logs
+    (own_records (shared_of core) f i (own_of n) redo (places_of m) here (opens_to_record (shared_of core) f i n here may) is room more)))))

@@ -11,7 +11,8 @@ use Rattle.recovery.specs.declared.members.Phase.TheVariants as phase
 use Rattle.recovery.specs.Members.{next_epoch, phase_of}
 use Rattle.inst_state.specs.declared.inst.ReadThread.{ReadThread}
 use Rattle.log_laws.proofs.Bytes.{right_spilled, right_where_whole, same_whole}
-use Rattle.log_laws.proofs.Cluster.{Alone, AtOwn, Files, Logs, Members, Own, ReadOf, Shared, Thread, ThreadAt, control_in, is_settled, known_in, left, log_in, lost_own, open_in, put_log}
+use Rattle.std.specs.List.{AllByRecursion}
+use Rattle.log_laws.proofs.Cluster.{Alone, AtOwn, Files, IsEndIn, Logs, Members, Own, ReadOf, Shared, Thread, ThreadAt, control_in, is_settled, known_in, left, log_in, lost_own, open_in, put_log}
 use Rattle.log_laws.proofs.Sets.{dark_none, frozen_some, has_still, has_without}
 use Rattle.log_laws.proofs.Moves.{closed_where, log_kept, log_put, moved, no_way, open_by, other_on, reads_on, thread_on}
 
@@ -89,10 +90,12 @@ log_forced s f owns i o logs there few live =
       names = at.names;
       log = λ op. (let was = at.log op in record {
         durable = (let d = was.durable in let e = ap length is in omega (arith, d, size, e));
+        behind = same_whole bytes (log_in g i) (sym is) was.whole;
         whole = same_whole bytes (log_in g i ++ []) (sym (append-nil (log_in g i) ∙ is)) was.whole;
         short = (let h = was.short in let e = ap length is in omega (arith, h, size, e));
       });
-      idle = λ cl. (let was = at.idle cl in record { up = was.up; none = was.none; empty = refl });
+      places = λ op. subst (λ (b : List ℕ). AllByRecursion (IsEndIn b) o.places) (sym (append-nil (log_in g i) ∙ is)) (at.places op);
+      idle = λ cl. (let was = at.idle cl in record { up = was.up; none = was.none; empty = refl; places = was.places });
       epoch = at.epoch;
       reads = reads_on s s f g o.epoch o.reads (inl (refl, reads)) at.epoch at.reads;
     }
@@ -227,7 +230,8 @@ inst_left s f g owns i o logs there few small sizes controls others spills =
     own = record {
       names = (let me = (logs.each i o there).names.0 in (me, me));
       log = λ op. absurd (no_way (open_in now i) op shut);
-      idle = λ cl. record { up = refl; none = refl; empty = refl };
+      places = λ op. absurd (no_way (open_in now i) op shut);
+      idle = λ cl. record { up = refl; none = refl; empty = refl; places = refl };
       epoch = omega arith;
       reads = λ e. tt;
     }

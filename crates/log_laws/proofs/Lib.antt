@@ -1,4 +1,5 @@
 pub mod Bytes
+pub mod Places
 pub mod Cluster
 pub mod Sets
 pub mod Moves
@@ -7,12 +8,15 @@ pub mod Coming
 pub mod Thawing
 pub mod Quiet
 pub mod Keeps
+pub mod Eases
 pub mod Files
 pub mod ByDisk
 pub mod ByThread
 pub mod ByOpen
 pub mod ByKind
+pub mod Epochs
 pub mod Facts
-pub mod Runs
+pub mod Worlds
 pub mod Firsts
 pub mod Reading
+pub mod Runs

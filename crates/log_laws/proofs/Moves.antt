@@ -10,7 +10,7 @@ use Rattle.inst_state.specs.declared.inst.ReadThread.{ReadThread}
 use Rattle.log_history.specs.Logs.{IsRight}
 use Rattle.log_laws.specs.Logs.{IsWhole}
 use Rattle.log_laws.proofs.Bytes.{right_where_whole, same_whole, whole_cut}
-use Rattle.log_laws.proofs.Cluster.{AtOwn, EntryIs, Files, Logs, Members, Own, ReadOf, Shared, Thread, ThreadAt, control_in, known_in, log_in, open_in, put_control, put_log}
+use Rattle.log_laws.proofs.Cluster.{AtOwn, EntryIs, Files, IsEndIn, Logs, Members, Own, ReadOf, Shared, Thread, ThreadAt, control_in, known_in, log_in, open_in, put_control, put_log}
 use Rattle.log_laws.proofs.Sets.{set_at}
 
 -- a thread whose log and entry are the same
@@ -54,9 +54,11 @@ other_on s now f g j o logs opened live reads at = record {
   names = at.names;
   log = λ op. (let was = at.log (sym opened ∙ op) in let log = logs (sym opened ∙ op) in record {
     durable = was.durable ∙ ap length (sym log);
+    behind = same_whole (log_in f j) (log_in g j) (sym log) was.behind;
     whole = same_whole (log_in f j ++ o.thread.waiting) (log_in g j ++ o.thread.waiting) (ap (λ (x : List ℕ). x ++ o.thread.waiting) (sym log)) was.whole;
     short = (let e : length (log_in g j) ≡ length (log_in f j) = ap length log in let h = was.short in omega (arith, e, h));
   });
+  places = λ op. subst (λ (log : List ℕ). AllByRecursion (IsEndIn (log ++ o.thread.waiting)) o.places) (sym (logs (sym opened ∙ op))) (at.places (sym opened ∙ op));
   idle = λ cl. at.idle (sym opened ∙ cl);
   epoch = (let a = at.epoch in let b = epoch_on s now f g reads in omega (arith, a, b));
   reads = reads_on s now f g o.epoch o.reads reads at.epoch at.reads;
@@ -132,7 +134,7 @@ control_put s f owns t bytes logs few entry = record {
   members = logs.members;
   sizes = (logs.sizes.0, length-set f.controls t bytes ∙ logs.sizes.1);
   threads = λ u small. at u small (cases_eq u t);
-  each = λ j x there. (let at = logs.each j x there in record { names = at.names; log = at.log; idle = at.idle; epoch = at.epoch; reads = at.reads });
+  each = λ j x there. (let at = logs.each j x there in record { names = at.names; log = at.log; places = at.places; idle = at.idle; epoch = at.epoch; reads = at.reads });
 }
   where
     is : control_in (put_control f t bytes) t ≡ bytes

@@ -26,7 +26,13 @@ use Rattle.inst_state.specs.Sending.{sending}
 use Rattle.inst_loss.specs.declared.ends.Loss.{Loss}
 use Rattle.inst_loss.specs.declared.ends.Loss.TheVariants as loss
 use Rattle.inst_loss.specs.LostCore.{kept_told, loss_told, lost_core, start_answered}
-use Rattle.disk_steps.specs.Write.{tells_of, wrote_sent}
+use Rattle.disk_steps.specs.Write.{tells_of, write_told_as, wrote_sent}
+use Rattle.disk_steps.specs.declared.writing.Target.{Target}
+use Rattle.disk_steps.specs.declared.writing.Target.TheVariants.{Data}
+use Rattle.scn_clock.specs.declared.clock.Clock.{Clock}
+use Rattle.inst_set.specs.Sets.{without_inst}
+use Rattle.recovery.specs.declared.members.Phase.TheVariants as phase
+use Rattle.rebuild_steps.specs.Thaw.{dealt_core}
 use Rattle.image_steps.specs.Ask.{ask_sent_in}
 use Rattle.image_steps.specs.AskWrite.{plea_sent}
 use Rattle.image_steps.specs.DropPast.{past_order_sent, plea_answered}
@@ -192,3 +198,11 @@ loss_shared n core (loss.Ended bad) = start_shared n.life core
 -- the membership after the loss of an instance
 pub lost_shared : (n : Inst) (core : Core) (it : Loss) (kept : Option ℕ) → shared_of (lost_core n core it kept) ≡ left_shared (shared_of core) n.plan.me
 lost_shared n core it kept = ap (λ (s : Shared). left_shared s n.plan.me) (loss_shared n (kept_told n core kept) it ∙ kept_shared n core kept)
+
+pub write_shared : (n : Inst) (core : Core) (block : ℕ) (what : Target) → shared_of (write_told_as n core block what) ≡ shared_of core
+write_shared n core block Data = wrote_shared n core block (current_image n block)
+write_shared n core block _ = refl
+
+pub dealt_shared : (core : Core) (me : ℕ) (bound : Clock) → shared_of (dealt_core core me bound) ≡ record (shared_of core) { phase = phase.Thawed; former = without_inst core.recovery.former me }
+unfolding dealt_core
+dealt_shared core me bound = refl

@@ -1,6 +1,6 @@
 -- What a read of a thread meets.
-use Rattle.std.proofs.Common.{◌≡◌, ℕ, ◌+◌, ◌^◌, ◌<◌, ◌≤◌, ◌&&◌, Bool, true, false, List, [], ◌∷◌, ◌++◌, length, take, drop, map, Option, None, Some, refl, sym, ap, subst, ◌∙◌, ◌⊎◌, inl, inr, arith, append_assoc}
-use Rattle.std.specs.Prelude.{IfSome, IsSomeAnd, nat_lt}
+use Rattle.std.proofs.Common.{◌≡◌, ℕ, ◌^◌, ◌<◌, ◌&&◌, Bool, true, false, List, [], ◌∷◌, ◌++◌, length, take, drop, Option, None, Some, refl, sym, ap, subst, ◌∙◌, ◌⊎◌, inl, inr, arith, append_assoc}
+use Rattle.std.specs.Prelude.{IfSome, IsSomeAnd}
 use Rattle.std.specs.List.{AllByRecursion}
 use Rattle.std.proofs.lemmas.Bool.{and_parts, ltb-true}
 use Rattle.std.proofs.lemmas.List.{append_cancel_left, take-append-drop, take_all, take_at}
@@ -9,15 +9,14 @@ use Rattle.part_image.specs.Cells.{Begins}
 use Rattle.control_image.specs.declared.entry.ControlEntry.{ControlEntry}
 use Rattle.control_image.specs.declared.entry.ThreadStatus.{ThreadStatus}
 use Rattle.control_image.specs.declared.entry.ThreadStatus.TheVariants.{Closed, Running}
-use Rattle.control_image.specs.Entry.{IsEntry, entry_bytes, status_number}
+use Rattle.control_image.specs.Entry.{entry_bytes, status_number}
 use Rattle.redo_types.specs.declared.redo.Redo.{Redo}
-use Rattle.redo_record.specs.Front.{BeginsWith, log_bytes}
+use Rattle.redo_record.specs.Front.{log_bytes}
 use Rattle.redo_record.specs.Redo.{IsRedo, redo_bytes}
 use Rattle.redo_record.proofs.FrontLemmas.{length_at_front}
 use Rattle.rac_disk.specs.Content.{Content}
 use Rattle.rac_disk.specs.State.{State}
 use Rattle.disk_calls.specs.Images.{is_small}
-use Rattle.log_history.specs.LogHistory.{IsLog}
 use Rattle.log_history.specs.Logs.{IsEnd, IsRight}
 use Rattle.log_history.proofs.LogLemmas.{none_at_end}
 use Rattle.log_history.proofs.OneWay.{one_way}

@@ -1,85 +1,36 @@
--- The logs are right in each world of a run.
-use Rattle.std.proofs.Common.{◌≡◌, ℕ, zero, suc, true, List, [], ◌∷◌, map, Some, slice_get, refl, sym, ap, subst, ◌∙◌}
-use Rattle.std.specs.Prelude.{slice_set}
-use Rattle.std.proofs.lemmas.Option.{none-some, same_Some}
+-- What holds of the logs in each run of a script.
+use Rattle.std.proofs.Common.{◌≡◌, ◌-◌, ◌^◌, ◌<◌, true, List, length, map, ap, arith}
+use Rattle.std.specs.Prelude.{IsSomeAnd, is_some}
 use Rattle.rand_pcg.specs.Lcg.{Lcg}
+use Rattle.rac_disk.specs.Content.{Content}
 use Rattle.rac_disk.specs.State.{State}
-use Rattle.inst_state.specs.declared.inst.Inst.{Inst}
-use Rattle.inst_state.specs.declared.shared.Core.{Core}
-use Rattle.inst_node.specs.declared.actions.Action.{Action}
-use Rattle.inst_node.specs.declared.actions.Action.TheVariants.{Block, Dead, Inst as OfInst, Line, Plain, Session}
+use Rattle.script_text.specs.ScriptParts.{ScriptParts}
+use Rattle.script_text.specs.WellFormed.{IsWellFormed}
+use Rattle.first_state.specs.declared.creation.Created.TheVariants.{Whole}
+use Rattle.first_state.specs.Plan.{layout_of}
 use Rattle.inst_node.specs.declared.actions.Step.{Step}
-use Rattle.inst_node.specs.declared.hows.How.{How}
-use Rattle.inst_node.specs.Moves.{DiskAfter, core_after, counted, part_after, prepared}
-use Rattle.inst_node.specs.Needs.{needs}
 use Rattle.world_machine.specs.declared.worlds.World.{World}
-use Rattle.world_machine.specs.Runs.{IsRun}
-use Rattle.run_laws.proofs.RunLemmas.{Made, made_of}
-use Rattle.log_laws.specs.Sound.{IsSound, IsSoundRun, IsSoundStep}
-use Rattle.log_laws.proofs.ByKind.{block_keeps, dead_keeps, inst_keeps, line_keeps, plain_keeps, session_keeps}
-use Rattle.log_laws.proofs.Cluster.{Own, Shared, own_of, shared_of}
-use Rattle.log_laws.proofs.Facts.{counted_shared, dead_may, line_may, plain_may, prepared_own, session_may, thread_may}
-use Rattle.log_laws.proofs.Keeps.{HoldsAt, Keeps}
-use Rattle.log_laws.proofs.Leaving.{IsSmall}
+use Rattle.world_machine.specs.Runs.{IsRun, words}
+use Rattle.cluster_run.specs.declared.script_runs.ClusterRun.{ClusterRun}
+use Rattle.cluster_run.specs.First.{IsFirstWorld}
+use Rattle.cluster_run.specs.Runs.{IsCreated, IsRunOf}
+use Rattle.log_laws.specs.Logs.{HasGoodLogs}
+use Rattle.log_laws.proofs.Cluster.{Logs, files_of, own_of, shared_of}
+use Rattle.log_laws.proofs.Firsts.{first_holds, good_logs}
+use Rattle.log_laws.proofs.Keeps.{and_on}
+use Rattle.log_laws.proofs.Worlds.{Holds, run_holds}
 
--- a step
+-- the logs are right after a run from the first world on, over a database made anew
+pub logs_after : (script : ScriptParts) (g : Lcg) (first : World) (disk created : State) (book : List Step) (h : Lcg) (w : World) (disk_now : State)
+    → IsRun g first created book h w disk_now → IsWellFormed script → IsFirstWorld script first → is_some disk.told ≡ true → IsCreated (layout_of script) Whole disk created
+    → length book < 2 ^ 32 - 1 → Holds w disk_now
+logs_after script g first disk created book h w disk_now run fit starts told new few =
+    let none = ap (λ core. core.members.epoch) starts.core in
+    run_holds g first created book h w disk_now run (omega (arith, none, few)) (first_holds script first disk created fit starts told new)
 
-ready_keeps : (n : Inst) (core : Core) (action : Action) (it : How) (old new : State) → needs n core action ≡ true → IsSound (prepared n core action) core action old.told
-    → DiskAfter n core action it old new → Keeps (prepared n core action) (part_after n core action it) (counted core n.plan.me action) (core_after n core action it) old new
-ready_keeps n core (Session kind z) it old new may sound disk =
-    session_keeps (prepared n core (Session kind z)) (counted core n.plan.me (Session kind z)) kind z it old new (session_may n core kind z old.told may sound) disk
-ready_keeps n core (Dead kind job) it old new may sound disk =
-    dead_keeps (prepared n core (Dead kind job)) (counted core n.plan.me (Dead kind job)) kind job old new (dead_may n core kind job old.told may sound) disk
-ready_keeps n core (Block kind number) it old new may sound disk =
-    block_keeps (prepared n core (Block kind number)) (counted core n.plan.me (Block kind number)) kind number it old new disk
-ready_keeps n core (OfInst kind from) it old new may sound disk =
-    inst_keeps (prepared n core (OfInst kind from)) (counted core n.plan.me (OfInst kind from)) kind from it old new (thread_may n core kind from may) disk
-ready_keeps n core (Line kind number) it old new may sound disk =
-    line_keeps (prepared n core (Line kind number)) (counted core n.plan.me (Line kind number)) kind number it old new (line_may n core kind number old.told may sound) disk
-ready_keeps n core (Plain kind) it old new may sound disk =
-    plain_keeps (prepared n core (Plain kind)) (counted core n.plan.me (Plain kind)) kind it old new (plain_may n core kind may) disk
-
-step_keeps : (n : Inst) (core : Core) (action : Action) (it : How) (old new : State) → needs n core action ≡ true → IsSound (prepared n core action) core action old.told
-    → DiskAfter n core action it old new → Keeps n (part_after n core action it) core (core_after n core action it) old new
-step_keeps n core action it old new may sound disk owns i at small holds =
-    ready_keeps n core action it old new may sound disk owns i (at ∙ ap Some (sym (prepared_own n core action))) small
-    (subst (λ (s : Shared). HoldsAt s owns old.told) (sym (counted_shared core n.plan.me action)) holds)
-
-map_set : (l : List Inst) (i : ℕ) (m : Inst) → map own_of (slice_set l i m) ≡ slice_set (map own_of l) i (own_of m)
-map_set [] i m = refl
-map_set (n ∷ l) zero m = refl
-map_set (n ∷ l) (suc i) m = ap (λ (x : List Own). own_of n ∷ x) (map_set l i m)
-
-pub map_get : (l : List Inst) (i : ℕ) (n : Inst) → slice_get l i ≡ Some n → slice_get (map own_of l) i ≡ Some (own_of n)
-map_get [] i n e = absurd (none-some n e)
-map_get (m ∷ l) zero n e = ap (λ (x : Inst). Some (own_of x)) (same_Some m n e)
-map_get (m ∷ l) (suc i) n e = map_get l i n e
-
-pub get_map : (l : List Inst) (i : ℕ) (o : Own) → slice_get (map own_of l) i ≡ Some o → (n : Inst) × (slice_get l i ≡ Some n) × (o ≡ own_of n)
-get_map [] i o e = absurd (none-some o e)
-get_map (m ∷ l) zero o e = (m, refl, sym (same_Some (own_of m) o e))
-get_map (m ∷ l) (suc i) o e = get_map l i o e
-
--- The logs are right in a world, and the disk tells them.
-abbrev pub Holds : World → State → Type 0
-Holds w disk = HoldsAt (shared_of w.core) (map own_of w.insts) disk.told
-
-made_holds : (old : World) (disk : State) (step : Step) (new : World) (disk_now : State) → Made old disk step new disk_now → IsSoundStep old disk step new
-    → Holds old disk → Holds new disk_now
-made_holds old disk step new disk_now m sound holds =
-    let part = part_after m.n old.core step.action m.how in
-    let core = core_after m.n old.core step.action m.how in
-    let small : IsSmall core.members.epoch = subst (λ (c : Core). IsSmall c.members.epoch) m.moved.core sound.epoch in
-    let after = step_keeps m.n old.core step.action m.how disk disk_now m.needs (sound.inst m.n m.at) m.moved.left (map own_of old.insts) step.inst (map_get old.insts step.inst m.n m.at) small holds in
-    let insts : map own_of new.insts ≡ slice_set (map own_of old.insts) step.inst (own_of part) = ap (map own_of) m.moved.insts ∙ map_set old.insts step.inst part in
-    subst (λ (l : List Own). HoldsAt (shared_of new.core) l disk_now.told) (sym insts)
-    (subst (λ (c : Core). HoldsAt (shared_of c) (slice_set (map own_of old.insts) step.inst (own_of part)) disk_now.told) (sym m.moved.core) after)
-
--- a run
-pub run_holds : (g : Lcg) (old : World) (disk : State) (book : List Step) (h : Lcg) (new : World) (disk_now : State) (run : IsRun g old disk book h new disk_now)
-    → IsSoundRun g old disk book h new disk_now run → Holds old disk → Holds new disk_now
-run_holds g old disk [] h new disk_now run sound holds =
-    subst (λ (w : World). Holds w disk_now) (sym run.1) (subst (λ (d : State). Holds old d) (sym run.2) holds)
-run_holds g old disk (step ∷ book) h new disk_now run sound holds =
-    run_holds run.0 run.1 run.2 book h new disk_now run.5 sound.1
-    (made_holds old disk step run.1 run.2 (made_of old disk step run.1 run.2 run.4) sound.0 holds)
+-- No log of the disk is one that no run leaves, once a script was run over a database made anew on a disk that tells what it holds.
+pub run_has_good_logs : (script : ScriptParts) (it : ClusterRun) (disk created disk_now : State) → IsWellFormed script → is_some disk.told ≡ true
+    → IsCreated (layout_of script) Whole disk created → IsRunOf script it created disk_now → length it.ran.book < 2 ^ 32 - 1 → IsSomeAnd disk_now.told HasGoodLogs
+run_has_good_logs script it disk created disk_now fit told new runs few =
+    and_on (λ (c : Content). Logs (shared_of it.world.core) (map own_of it.world.insts) (files_of c)) HasGoodLogs disk_now.told (good_logs it.world)
+    (logs_after script (words script.settings.seed) runs.first disk created it.ran.book it.ran.words it.world disk_now runs.run fit runs.starts told new few)

@@ -91,3 +91,14 @@ set_at {A = A} (a ∷ xs) (suc i) m (suc y) x e = by (set_at xs i m y x e)
     by : ((y ≡ i) × (x ≡ m)) ⊎ ((y ≡ i → ⊥) × (slice_get xs y ≡ Some x)) → ((suc y ≡ suc i) × (x ≡ m)) ⊎ ((suc y ≡ suc i → ⊥) × (slice_get xs y ≡ Some x))
     by (inl p) = inl (ap suc p.0, p.1)
     by (inr p) = inr ((λ same. p.0 (omega (arith, same))), p.1)
+
+-- what was set twice, and what was set
+pub set_twice : {A : Type 0} (l : List A) (i : ℕ) (a b : A) → slice_set (slice_set l i a) i b ≡ slice_set l i b
+set_twice [] i a b = refl
+set_twice (x ∷ l) zero a b = refl
+set_twice {A = A} (x ∷ l) (suc i) a b = ap (λ (m : List A). x ∷ m) (set_twice l i a b)
+
+pub get_set : {A : Type 0} (l : List A) (i : ℕ) (a x : A) → slice_get l i ≡ Some x → slice_get (slice_set l i a) i ≡ Some a
+get_set [] i a x e = absurd (none-some x e)
+get_set (y ∷ l) zero a x e = refl
+get_set (y ∷ l) (suc i) a x e = get_set l i a x e

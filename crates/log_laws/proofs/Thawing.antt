@@ -1,9 +1,9 @@
 -- How the cluster runs again, and what an instance does by itself.
-use Rattle.std.proofs.Common.{◌≡◌, ℕ, ◌^◌, ◌<◌, ◌≤◌, ◌&&◌, not, Bool, true, false, List, ◌++◌, Option, Some, None, slice_get, refl, sym, ap, subst, ◌∙◌, ◌⊎◌, inl, inr, arith, append_assoc}
+use Rattle.std.proofs.Common.{◌≡◌, ℕ, ◌+◌, ◌^◌, ◌<◌, ◌≤◌, ◌&&◌, not, Bool, true, false, List, [], ◌∷◌, ◌++◌, length, take, Option, Some, None, slice_get, refl, sym, ap, subst, ◌∙◌, ◌⊎◌, inl, inr, arith, append_assoc}
 use Rattle.std.specs.Prelude.{is_some, slice_set}
 use Rattle.std.specs.List.{AllByRecursion}
 use Rattle.std.proofs.lemmas.Bool.{cases_eq}
-use Rattle.std.proofs.lemmas.List.{get_or-set_other, length-append, length-set}
+use Rattle.std.proofs.lemmas.List.{get_or-set_other, length-append, length-set, take_all, take-append-le}
 use Rattle.inst_set.specs.Sets.{has, without_inst}
 use Rattle.redo_types.specs.declared.redo.Redo.{Redo}
 use Rattle.redo_record.specs.Redo.{IsRedo, redo_bytes}
@@ -13,7 +13,8 @@ use Rattle.recovery.specs.declared.members.Phase.TheVariants as phase
 use Rattle.inst_state.specs.declared.inst.ReadThread.{ReadThread}
 use Rattle.log_laws.specs.Logs.{IsWhole}
 use Rattle.log_laws.proofs.Bytes.{record_length, record_whole, same_whole, whole_append}
-use Rattle.log_laws.proofs.Cluster.{Alone, AtOwn, Files, LogOf, Logs, Members, Own, ReadOf, Shared, Thread, ThreadAt, control_in, is_settled, known_in, log_in, open_in, telling_closed}
+use Rattle.log_laws.proofs.Cluster.{Alone, AtOwn, Files, IsEndIn, LogOf, Logs, Members, Own, ReadOf, Shared, Thread, ThreadAt, control_in, is_settled, known_in, log_in, open_in, telling_closed}
+use Rattle.log_laws.proofs.Places.{Fewer, OneMore, fewer_of_none}
 use Rattle.log_laws.proofs.Sets.{has_still, has_without}
 use Rattle.log_laws.proofs.Moves.{moved, no_way, open_by, other_on, reads_on, thread_on}
 use Rattle.log_laws.proofs.Coming.{OpenEntry, no_former, open_log, open_thread, opened_own, unknown_at, unknown_still}
@@ -86,17 +87,18 @@ thawed_opening s f owns i o adopts logs there few was_former known all entry =
     own = record {
       names = (at.names.0, at.names.0);
       log = λ op. open_log s f i o (logs.threads i few) whole;
+      places = λ op. tt;
       idle = λ cl. absurd (no_way (open_in now i) opens cl);
       epoch = at.epoch;
       reads = reads_on s now f f o.epoch o.reads (inl (refl, reads)) at.epoch at.reads;
     }
 
 -- the leader, whose thread is open, thaws the cluster
-pub thawed_open : (s : Shared) (f : Files) (owns : List Own) (i : ℕ) (o : Own) (adopts : ℕ) → Logs s owns f → slice_get owns i ≡ Some o
-    → has s.live i ≡ true → has s.former i ≡ false → AllKnown s
-    → Logs (record s { phase = phase.Thawed; former = without_inst s.former i }) (slice_set owns i (record o { adopts = adopts })) f
-thawed_open s f owns i o adopts logs there lives was_open all =
-    moved s now f f owns i (record o { adopts = adopts }) logs refl members logs.sizes
+pub thawed_open : (s : Shared) (f : Files) (owns : List Own) (i : ℕ) (o : Own) (adopts : ℕ) (places : List ℕ) → Logs s owns f → slice_get owns i ≡ Some o
+    → has s.live i ≡ true → has s.former i ≡ false → AllKnown s → Fewer o.places places
+    → Logs (record s { phase = phase.Thawed; former = without_inst s.former i }) (slice_set owns i (record o { adopts = adopts; places = places })) f
+thawed_open s f owns i o adopts places logs there lives was_open all fewer =
+    moved s now f f owns i (record o { adopts = adopts; places = places }) logs refl members logs.sizes
     (λ t small. thread_on s now f f t refl refl (same_open t (cases_eq t i)) (λ k. k) (logs.threads t small)) own
     (λ j x apart was. other_on s now f f j x (λ op. refl) (same_open j (inr apart)) refl (inl (refl, reads)) was)
   where
@@ -133,10 +135,11 @@ thawed_open s f owns i o adopts logs there lives was_open all =
     at : AtOwn s f i o
     at = logs.each i o there
 
-    own : AtOwn now f i (record o { adopts = adopts })
+    own : AtOwn now f i (record o { adopts = adopts; places = places })
     own = record {
       names = at.names;
       log = λ op. at.log opens;
+      places = λ op. fewer (IsEndIn (log_in f i ++ o.thread.waiting)) (at.places opens);
       idle = λ cl. absurd (no_way (open_in s i) opens (sym (same_open i (inl refl)) ∙ cl));
       epoch = at.epoch;
       reads = reads_on s now f f o.epoch o.reads (inl (refl, reads)) at.epoch at.reads;
@@ -155,38 +158,62 @@ reopened_again s f owns logs thawed = record {
   });
   sizes = logs.sizes;
   threads = logs.threads;
-  each = λ j x there. (let was = logs.each j x there in record { names = was.names; log = was.log; idle = was.idle; epoch = was.epoch; reads = was.reads });
+  each = λ j x there. (let was = logs.each j x there in record { names = was.names; log = was.log; places = was.places; idle = was.idle; epoch = was.epoch; reads = was.reads });
 }
 
--- an instance with the same thread
-pub own_kept : (s : Shared) (f : Files) (i : ℕ) (o p : Own) → AtOwn s f i o → p.me ≡ o.me → p.thread ≡ o.thread
+-- an instance with the same thread, and no more places
+pub own_kept : (s : Shared) (f : Files) (i : ℕ) (o p : Own) → AtOwn s f i o → p.me ≡ o.me → p.thread ≡ o.thread → Fewer o.places p.places
     → (open_in s i ≡ false → (p.up ≡ false) × (p.adopts ≡ 0)) → p.epoch ≤ s.epoch → (p.epoch ≡ s.epoch → AllByRecursion (ReadOf s f) p.reads) → AtOwn s f i p
-own_kept s f i o p at me thread idle epoch reads = record {
+own_kept s f i o p at me thread fewer idle epoch reads = record {
   names = (me ∙ at.names.0, ap (λ (x : ThreadState). x.number) thread ∙ at.names.1);
   log = λ op. subst (LogOf (log_in f i) i) (sym thread) (at.log op);
+  places = λ op. subst (λ (x : ThreadState). AllByRecursion (IsEndIn (log_in f i ++ x.waiting)) p.places) (sym thread)
+      (fewer (IsEndIn (log_in f i ++ o.thread.waiting)) (at.places op));
   idle = λ cl. record {
     up = (idle cl).0;
     none = (idle cl).1;
     empty = ap (λ (x : ThreadState). x.waiting) thread ∙ (at.idle cl).empty;
+    places = fewer_of_none o.places p.places fewer (at.idle cl).places;
   };
   epoch = epoch;
   reads = reads;
 }
 
--- an instance whose thread has one record more
-pub own_records : (s : Shared) (f : Files) (i : ℕ) (o : Own) (redo : Redo) → AtOwn s f i o → open_in s i ≡ true → IsRedo redo → end_of o.thread < 2 ^ 62
-    → AtOwn s f i (record o { thread = appended o.thread redo })
-own_records s f i o redo at op is room = record {
+-- a place in bytes behind which there are more now
+ends_on : (bytes more : List ℕ) (places : List ℕ) → AllByRecursion (IsEndIn bytes) places → AllByRecursion (IsEndIn (bytes ++ more)) places
+ends_on bytes more [] a = tt
+ends_on bytes more (place ∷ places) a = (
+  record {
+    within = (let h = a.0.within in omega (arith, h, length-append bytes more));
+    whole = same_whole (take place bytes) (take place (bytes ++ more)) (sym (take-append-le place bytes more a.0.within)) a.0.whole;
+  },
+  ends_on bytes more places a.1,
+)
+
+-- an instance whose thread has one record more, which may add its place
+pub own_records : (s : Shared) (f : Files) (i : ℕ) (o : Own) (redo : Redo) (places : List ℕ) → AtOwn s f i o → open_in s i ≡ true → IsRedo redo → end_of o.thread < 2 ^ 62
+    → OneMore (end_of o.thread) o.places places → AtOwn s f i (record o { thread = appended o.thread redo; places = places })
+own_records s f i o redo places at op is room more = record {
   names = at.names;
   log = λ op2. (let was = at.log op in
       let size = length-append o.thread.waiting (redo_bytes redo) in
       let long = record_length redo is in
       record {
         durable = was.durable;
+        behind = was.behind;
         whole = same_whole ((log_in f i ++ o.thread.waiting) ++ redo_bytes redo) (log_in f i ++ (o.thread.waiting ++ redo_bytes redo))
             (append_assoc (log_in f i) o.thread.waiting (redo_bytes redo)) (whole_append (log_in f i ++ o.thread.waiting) (redo_bytes redo) was.whole (record_whole redo is));
         short = (let d = was.durable in omega (arith, room, size, long, d));
       });
+  places = λ op2. (let was = at.log op in
+      let bytes = log_in f i ++ o.thread.waiting in
+      let size : length bytes ≡ end_of o.thread = length-append (log_in f i) o.thread.waiting ∙ ap (λ (n : ℕ). n + length o.thread.waiting) (sym was.durable) in
+      let last : IsEndIn bytes (end_of o.thread) = record {
+        within = omega (arith, size);
+        whole = same_whole bytes (take (end_of o.thread) bytes) (sym (take_all (end_of o.thread) bytes (omega (arith, size)))) was.whole;
+      } in
+      subst (λ (b : List ℕ). AllByRecursion (IsEndIn b) places) (append_assoc (log_in f i) o.thread.waiting (redo_bytes redo))
+      (ends_on bytes (redo_bytes redo) places (more (IsEndIn bytes) last (at.places op))));
   idle = λ cl. absurd (no_way (open_in s i) op cl);
   epoch = at.epoch;
   reads = at.reads;

@@ -4,4 +4,6 @@
 
 mod laws;
 
-pub use laws::{a_dead_thread_is_read, a_live_thread_has_its_log, logs_stay_right};
+pub use laws::{
+    a_dead_thread_is_read, a_live_thread_has_its_log, a_run_leaves_good_logs, logs_stay_right,
+};

@@ -1,12 +1,13 @@
 use Rattle.rac_disk.specs.Content.{Content}
 use Rattle.log_laws.specs.Logs.{HasGoodLogs}
 use Rattle.log_laws.proofs.Cluster.{Logs, files_of, own_of, shared_of}
-use Rattle.log_laws.proofs.Firsts.{and_on, first_holds, good_logs}
-use Rattle.log_laws.proofs.Runs.{run_holds}
+use Rattle.log_laws.proofs.Firsts.{good_logs}
+use Rattle.log_laws.proofs.Keeps.{and_on}
+use Rattle.log_laws.proofs.Runs.{logs_after}
 use Rattle.std.proofs.Common.{map}
 use Rattle.log_laws.proofs.laws.logs_stay_right.Goals as goal
 
 pub returns : goal.returns
-returns c script g first disk created book h w disk_now run fit starts told new sound =
+returns c script g first disk created book h w disk_now run fit starts told new short =
     and_on (λ (it : Content). Logs (shared_of w.core) (map own_of w.insts) (files_of it)) HasGoodLogs disk_now.told (good_logs w)
-    (run_holds g first created book h w disk_now run sound (first_holds script first disk created fit starts told new))
+    (logs_after script g first disk created book h w disk_now run fit starts told new short)
