@@ -1,6 +1,7 @@
 -- A block as others act.
-use Rattle.std.proofs.Common.{◌≡◌, ◌≢◌, ◌∙◌, ℕ, ◌+◌, Bool, true, false, List, [], ◌∷◌, ◌++◌, length, refl, sym, ap, subst}
-use Rattle.std.specs.Prelude.{max, drop, Some}
+use Rattle.std.proofs.Common.{◌≡◌, ◌≢◌, ◌∙◌, ℕ, ◌+◌, Bool, true, false, List, [], ◌∷◌, ◌++◌, length, refl, sym, ap, subst, cond}
+use Rattle.std.specs.Prelude.{max, drop, option_to_list, Some}
+use Rattle.std.proofs.lemmas.Bool.{eq-eqb, ne_eqb}
 use Rattle.std.proofs.lemmas.List.{length-set}
 use Rattle.wire_net.specs.declared.message.Message.{Message}
 use Rattle.wire_net.specs.declared.message.Lane.TheVariants.{Main}
@@ -15,11 +16,11 @@ use Rattle.block_protocol.specs.Steps.{ServesNot, is_none, Step, asked_on, clock
 use Rattle.block_protocol.specs.Wire.{Wire, flights, Same}
 use Rattle.block_protocol.proofs.Basics.{put-elim, put-other}
 use Rattle.block_protocol.proofs.Directory.{Sound-step}
-use Rattle.protocol_ties.specs.AmongAll.{wires_about}
+use Rattle.protocol_ties.specs.AmongAll.{is_block, wires_about}
 use Rattle.protocol_ties.specs.Bags.{bag_of}
 use Rattle.protocol_ties.specs.Entries.{Shows}
 use Rattle.protocol_ties.specs.MasterRuns.{IsMasters, LeavesRest, MasterRun, goes, raised, stays}
-use Rattle.protocol_ties.specs.Messages.{hold_of, instances, pleas_of, wires_of}
+use Rattle.protocol_ties.specs.Messages.{block_of, hold_of, instances, pleas_of, wire_of, wires_of}
 use Rattle.protocol_ties.specs.OnLinks.{all_sent}
 use Rattle.protocol_ties.specs.Places.{hold_at}
 use Rattle.protocol_ties.proofs.About.{wires-here as about-here, wires-there as about-there}
@@ -27,10 +28,11 @@ use Rattle.protocol_ties.proofs.Among.{sends-are-of-the-block}
 use Rattle.protocol_ties.proofs.Bag.{same-trans}
 use Rattle.protocol_ties.proofs.Goes.{sound-after}
 use Rattle.protocol_ties.proofs.Numbered.{num-takes}
+use Rattle.protocol_ties.proofs.Passes.{message-goes-on}
 use Rattle.protocol_ties.proofs.OnLinks.{same-sym, sends-in, shows-same}
 use Rattle.protocol_ties.proofs.Places.{cache-changes, masters-leave-caches}
 use Rattle.protocol_ties.proofs.Reacts.{message-is-a-run}
-use Rattle.holder_ties.specs.Beside.{ClocksMayRise, ImageIsChanged, LinksMayDiffer, MasterTakes, RedoMayBeForced}
+use Rattle.holder_ties.specs.Beside.{ClocksMayRise, ImageIsChanged, LinksMayDiffer, MasterTakes, MessagePassesOn, RedoMayBeForced}
 use Rattle.holder_ties.specs.Shown.{AreHoldings, Holdings, IsUnasked, IsUpgrade, clock_then, risen}
 use Rattle.holder_ties.proofs.Orders.{one-held}
 use Rattle.holder_ties.proofs.Taking.{asked-stays, bag-taken, others-taken, raised-sound, risen-clock, stays-around}
@@ -300,4 +302,45 @@ master-takes me from scn message links h block_no entry block is comes about wir
           same-trans (bag_of other links) (bag_of other left) (bag_of other (all_sent me clock sends left))
           (others-taken me from scn message links h block_no entry block is comes about other ne)
           (subst (λ (l : List Wire). Same (l ++ bag_of other left) (bag_of other (all_sent me clock sends left))) silent there.0);
+    }
+
+-- one message about a block is among its messages, and among no other block's
+one-here : (b to clock : ℕ) (message : Message) → block_of message ≡ Some b → wires_about b clock ((to, message) ∷ []) ≡ wires_of clock ((to, message) ∷ [])
+one-here b to clock message about = ap (λ t. cond t (option_to_list (wire_of to clock message)) [] ++ []) (ap (is_block b) about ∙ eq-eqb b b refl)
+
+one-there : (b other to clock : ℕ) (message : Message) → block_of message ≡ Some b → other ≢ b → wires_about other clock ((to, message) ∷ []) ≡ []
+one-there b other to clock message about ne = ap (λ t. cond t (option_to_list (wire_of to clock message)) [] ++ []) (ap (is_block other) about ∙ ne_eqb b other (λ e. ne (sym e)))
+
+pub message-passes-on : MessagePassesOn
+message-passes-on me from to scn message links h block_no entry block is comes about wire bears for_master there entry_of =
+    let left : List (List Packet) = taken links from me Main in
+    let clock : ℕ = clock_then me scn h in
+    let sends : List (ℕ × Message) = (to, message) ∷ [] in
+    let long : length left ≡ 128 = length-set links (place_of from me Main) (drop 1 (waiting_on links from me Main)) ∙ is.sized in
+    let under : Same (wire ∷ (bag_of block_no left ++ pleas_of entry.queue)) (flights instances block) =
+    bag-taken me from scn message links h block_no entry block is comes about wire bears in
+    let k = message-goes-on me to scn message wire (bag_of block_no left) entry block for_master bears
+    (record { tied = is.shows.tied; messages = under; requests = is.shows.requests; proper = is.shows.proper }) in
+    let said : wires_of (max (block.clock me) scn) sends ≡ wires_about block_no clock sends =
+    ap (λ (c : Inst → ℕ). wires_of (max (c me) scn) sends) is.around.clock ∙ sym (one-here block_no to clock message about) in
+    let in_of = sends-in block_no me clock sends left long comes.receiver (there, tt) in
+    record {
+      after = k.after;
+      run = k.run;
+      place = ap (λ (s : Block). s.place) k.beside;
+      is_entry = entry_of;
+      shown = record {
+        sized = in_of.1;
+        sound = sound-after k.run (raised-sound me scn block is.sound);
+        shows = shows-same (same-sym (wires_about block_no clock sends ++ bag_of block_no left) (bag_of block_no (all_sent me clock sends left)) in_of.0)
+            (subst (λ (l : List Wire). Shows (l ++ bag_of block_no left) entry k.after) said k.shows);
+        around = master-around me scn h block k.after k.run k.beside is.around;
+        upgrade = upgrade-run k.run is.upgrade;
+      };
+      others = λ other ne.
+          let silent : wires_about other clock sends ≡ [] = one-there block_no other to clock message about ne in
+          let there_too = sends-in other me clock sends left long comes.receiver (there, tt) in
+          same-trans (bag_of other links) (bag_of other left) (bag_of other (all_sent me clock sends left))
+          (others-taken me from scn message links h block_no entry block is comes about other ne)
+          (subst (λ (l : List Wire). Same (l ++ bag_of other left) (bag_of other (all_sent me clock sends left))) silent there_too.0);
     }

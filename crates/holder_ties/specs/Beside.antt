@@ -1,5 +1,5 @@
 -- What a block shows as others act: the other blocks, a clock that rises, redo that is forced, a master that takes a message.
-use Rattle.std.specs.Prelude.{◌≡◌, ◌+◌, List, ◌∷◌, Some, max, false, true}
+use Rattle.std.specs.Prelude.{◌≡◌, ◌<◌, ◌+◌, List, ◌∷◌, Some, max, false, true}
 use Rattle.base_types.specs.declared.names.BlockNo.{BlockNo}
 use Rattle.base_types.specs.declared.names.RedoAt.{RedoAt}
 use Rattle.redo_types.specs.declared.blocks.RowChange.{RowChange}
@@ -18,11 +18,11 @@ use Rattle.block_protocol.specs.Wire.{Same, Wire}
 use Rattle.protocol_ties.specs.AmongAll.{WaitsAbout}
 use Rattle.protocol_ties.specs.Bags.{AreLinks, bag_of}
 use Rattle.protocol_ties.specs.MasterRuns.{MasterRun, raised}
-use Rattle.protocol_ties.specs.Messages.{block_of, wire_of}
+use Rattle.protocol_ties.specs.Messages.{block_of, instances, wire_of}
 use Rattle.protocol_ties.specs.Numbered.{IsMessageNumbered, IsNumbered}
 use Rattle.protocol_ties.specs.OnLinks.{all_sent}
 use Rattle.protocol_ties.specs.Takes.{HasRoom, IsForMaster, IsOfMade}
-use Rattle.holder_ties.specs.Shown.{Comes, Holdings, IsShown, clock_then, risen}
+use Rattle.holder_ties.specs.Shown.{Comes, Holdings, IsShown, answered, clock_then, risen}
 
 -- A block is shown by other links too that bear the same messages on it.
 abbrev pub LinksMayDiffer : Type 0
@@ -89,3 +89,9 @@ MasterTakes = (me from : Inst) (scn : Scn) (message : Message) (links : List (Li
     → IsShown links h block_no entry block → Comes me from links scn message → block_of message ≡ Some block_no → (wire : Wire) → wire_of me scn message ≡ Some wire → IsForMaster message → IsMessageNumbered message → IsOfMade message block
     → block.place ≡ At me → IsEntryOf block_no entry → HasRoom entry
     → Masters me scn links (all_sent me (clock_then me scn h) (takes entry message).sends (taken links from me Main)) (risen me scn h) block_no (takes entry message).entry block
+
+-- A message for a master that comes to who isn't the master goes on to another instance.
+abbrev pub MessagePassesOn : Type 0
+MessagePassesOn = (me from to : Inst) (scn : Scn) (message : Message) (links : List (List Packet)) (h : Holdings) (block_no : BlockNo) (entry : Entry) (block : Block)
+    → IsShown links h block_no entry block → Comes me from links scn message → block_of message ≡ Some block_no → (wire : Wire) → wire_of me scn message ≡ Some wire → IsForMaster message → to < instances → IsEntryOf block_no entry
+    → Masters me scn links (answered me from to (clock_then me scn h) message links) (risen me scn h) block_no entry block

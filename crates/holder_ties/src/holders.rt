@@ -1,4 +1,4 @@
-ghost use Rattle.holder_ties.specs.Beside.{ClocksMayRise, ImageIsChanged, LinksMayDiffer, MasterTakes, RedoMayBeForced};
+ghost use Rattle.holder_ties.specs.Beside.{ClocksMayRise, ImageIsChanged, LinksMayDiffer, MasterTakes, MessagePassesOn, RedoMayBeForced};
 ghost use Rattle.holder_ties.specs.HolderTurns.{HolderRunsAreTurnsOfAll};
 ghost use Rattle.holder_ties.specs.Own.{AskGoesOut, ImageIsEvicted, ImageIsWritten, WriteIsPleaded, WriteIsTold};
 ghost use Rattle.holder_ties.specs.Holders.{CopyComesBack, CopyIsServed, CopyIsTaken, DiskImageIsInstalled, ImageIsUpgraded, PastIsDropped, PleaComesBack, PleaIsMet, PleaIsNoted, ShipmentIsInstalled, ImageIsShared, ImageIsShipped, InvalidateIsObeyed, ShareComesBack, ShipComesBack};
@@ -59,11 +59,12 @@ pub fn a_run_of_a_holder_is_one_of_turns()
 {}
 
 /// What else happens leaves a block shown: messages of other blocks, a clock that rises, redo that is forced. A change of the
-/// image and what a master does with a message are steps of the protocol.
+/// image is a step of the protocol, and so are what a master does with a message and that another instance passes one on to it.
 pub fn a_block_stays_shown()
     ensures links { LinksMayDiffer }
     ensures clocks { ClocksMayRise }
     ensures forces { RedoMayBeForced }
     ensures changes { ImageIsChanged }
     ensures masters { MasterTakes }
+    ensures passes { MessagePassesOn }
 {}

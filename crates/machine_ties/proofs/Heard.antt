@@ -1,6 +1,6 @@
 -- An instance takes the first packet of a link about a block, or acts on a block, and answers or tells.
 use Rattle.std.proofs.Common.{◌≡◌, ◌≢◌, ◌∙◌, ℕ, zero, suc, ◌+◌, ◌*◌, ◌<◌, ◌≤◌, List, [], ◌∷◌, length, refl, sym, ap, subst, arith, ◌⊎◌, inl, inr, nat_le}
-use Rattle.std.specs.Prelude.{max, if◌then◌else◌, Option, Some, slice_get, slice_index_or, slice_set, true, false, Bool}
+use Rattle.std.specs.Prelude.{max, if◌then◌else◌, Option, None, Some, slice_get, slice_index_or, slice_set, true, false, Bool}
 use Rattle.std.proofs.lemmas.Bool.{leb-false, leb-true}
 use Rattle.std.proofs.lemmas.List.{get_or-set_other, get_or-set_same, length-set}
 use Rattle.std.proofs.lemmas.Option.{none-some}
@@ -14,6 +14,7 @@ use Rattle.buffer_cache.specs.declared.place.Current.{Current}
 use Rattle.buffer_cache.specs.declared.place.Place.{Place}
 use Rattle.buffer_cache.specs.Cache.{CacheState, at_place, place_at}
 use Rattle.buffer_cache.specs.Place.{empty_place}
+use Rattle.rac_disk.specs.Content.{Content}
 use Rattle.inst_state.specs.declared.inst.Inst.{Inst}
 use Rattle.inst_state.specs.declared.shared.Core.{Core}
 use Rattle.inst_state.specs.Sending.{first_from}
@@ -27,14 +28,14 @@ use Rattle.holder_ties.specs.Shown.{Comes, Does, GoesOn, Holdings, answered, clo
 use Rattle.machine_ties.specs.InstPlaces.{place_of}
 use Rattle.machine_ties.proofs.Holds.{Alike}
 use Rattle.machine_ties.proofs.Links.{sane-first, sane-sent, sane-taken}
-use Rattle.machine_ties.proofs.Moves.{low-or-not, others-sent, others-taken, own-clock, plays-acts, plays-takes, sent-sized, taken-sized}
-use Rattle.machine_ties.specs.Plays.{AreOfBlocks, Plays, newest}
+use Rattle.machine_ties.proofs.Moves.{low-or-not, others-sent, others-taken, own-clock, plays-acts, plays-rises, plays-takes, sent-sized, taken-sized}
+use Rattle.machine_ties.specs.Plays.{AreOfBlocks, IsOnDisk, Plays, newest}
 use Rattle.machine_ties.proofs.Plays.{same-or-not}
 use Rattle.machine_ties.specs.Sane.{IsSane}
 
 -- ---- the places of a cache
 
-past-end : (places : List Place) (b : ℕ) → length places ≤ b → slice_index_or places b empty_place ≡ empty_place
+pub past-end : (places : List Place) (b : ℕ) → length places ≤ b → slice_index_or places b empty_place ≡ empty_place
 past-end [] b far = refl
 past-end (x ∷ places) zero far = absurd (omega arith)
 past-end (x ∷ places) (suc b) far = past-end places b (omega arith)
@@ -102,7 +103,7 @@ first-low links from to lane packet sized there first = go (low-or-high from)
         let none : waiting_on links from to lane ≡ [] = no-first links (link_place from to lane) (let n : length links ≡ 128 = sized in omega (arith, n, far)) in
         absurd (none-some packet (sym (ap (λ (l : List Packet). slice_get l 0) none) ∙ first))
 
-module _ (count steps blocks : ℕ) (core : Core) (insts : List Inst) (p : Plays count steps blocks core.net.links core.net.masters insts) (n : Inst) (at : slice_get insts n.plan.me ≡ Some n) where
+module _ (count steps blocks : ℕ) (core : Core) (insts : List Inst) (disk : Content) (p : Plays count steps blocks core.net.links core.net.masters insts disk) (n : Inst) (at : slice_get insts n.plan.me ≡ Some n) where
   abbrev me : ℕ
   me = n.plan.me
 
@@ -117,7 +118,7 @@ module _ (count steps blocks : ℕ) (core : Core) (insts : List Inst) (p : Plays
   within b low = let long = (p.each me n at).cached in omega (arith, low, long)
 
   pub had-clock : (b : BlockNo) (low : b < blocks) → (p.follows b low).h.clock me ≡ n.clock.scn
-  had-clock b low = sym (ap (λ (c : ℕ → ℕ). c me) (p.follows b low).shown.around.clock) ∙ own-clock count steps blocks core.net.links core.net.masters insts p me n at
+  had-clock b low = sym (ap (λ (c : ℕ → ℕ). c me) (p.follows b low).shown.around.clock) ∙ own-clock count steps blocks core.net.links core.net.masters insts disk p me n at
 
   -- the first packet of a link
   pub comes : (from s : ℕ) (message : Message) → first_from core from me Main ≡ Some (record { scn = s; message = message }) → Comes me from core.net.links s message
@@ -134,14 +135,14 @@ module _ (count steps blocks : ℕ) (core : Core) (insts : List Inst) (p : Plays
   pub plays-answering : (from s : ℕ) (b : BlockNo) (message answer : Message) (to : ℕ) (m : Inst) → first_from core from me Main ≡ Some (record { scn = s; message = message }) → block_of message ≡ Some b → block_of answer ≡ Some b
       → to < 8 → IsSane (newest p.whole) answer → Alike n m → max n.clock.scn s ≡ m.clock.scn → ((c : ℕ) → c ≢ b → place_at m.cache c ≡ place_at n.cache c)
       → ((low : b < blocks) → (h : Holdings) × GoesOn me s core.net.links (answered me from to (clock_then me s (p.follows b low).h) answer core.net.links) h b (p.follows b low).entry (view p.whole b).block
-      × (h.records ≡ (p.follows b low).h.records) × ((i : ℕ) → i ≢ me → h.places i ≡ (p.follows b low).h.places i) × (h.places me ≡ place_at m.cache b))
-      → Plays count steps blocks (sent (taken core.net.links from me Main) me to (record { scn = max n.clock.scn s; message = answer })) core.net.masters (slice_set insts me m)
+      × (h.records ≡ (p.follows b low).h.records) × ((i : ℕ) → i ≢ me → h.places i ≡ (p.follows b low).h.places i) × (h.places me ≡ place_at m.cache b) × IsOnDisk disk b h.disk)
+      → Plays count steps blocks (sent (taken core.net.links from me Main) me to (record { scn = max n.clock.scn s; message = answer })) core.net.masters (slice_set insts me m) disk
   plays-answering from s b message answer to m first about says there sane alike clock places law =
       let left : List (List Packet) = taken core.net.links from me Main in
       let sender : from < 8 = (comes from s message first).sender in
       let packet : Packet = record { scn = max n.clock.scn s; message = answer } in
       let sized : AreLinks left = taken-sized core.net.links from me Main p.sized in
-      plays-takes count steps blocks core.net.links core.net.masters insts p me n m at alike b s (sent left me to packet) (sent-sized left me to packet sized)
+      plays-takes count steps blocks core.net.links core.net.masters insts disk p me n m at alike b s (sent left me to packet) (sent-sized left me to packet sized)
       (λ c ne.
       same-trans (bag_of c core.net.links) (bag_of c left) (bag_of c (sent left me to packet))
       (others-taken c from me s Main message core.net.links p.sized sender low-me first (λ is. ne (sym (some-one b c (sym about ∙ is)))))
@@ -149,31 +150,40 @@ module _ (count steps blocks : ℕ) (core : Core) (insts : List Inst) (p : Plays
       (sane-sent (newest p.whole) left me to packet (sane-taken (newest p.whole) core.net.links from me Main p.sane) sane) clock places
       (λ low.
       let k = law low in
-      (k.0, subst (λ (c : ℕ). GoesOn me s core.net.links (answered me from to c answer core.net.links) k.0 b (p.follows b low).entry (view p.whole b).block) (ap (λ (c : ℕ). max c s) (had-clock b low)) k.1, k.2, k.3, k.4))
+      (k.0, subst (λ (c : ℕ). GoesOn me s core.net.links (answered me from to c answer core.net.links) k.0 b (p.follows b low).entry (view p.whole b).block) (ap (λ (c : ℕ). max c s) (had-clock b low)) k.1, k.2, k.3, k.4, k.5))
 
   -- it is taken and not answered
   pub plays-silent : (from s : ℕ) (b : BlockNo) (message : Message) (m : Inst) → first_from core from me Main ≡ Some (record { scn = s; message = message }) → block_of message ≡ Some b
       → Alike n m → max n.clock.scn s ≡ m.clock.scn → ((c : ℕ) → c ≢ b → place_at m.cache c ≡ place_at n.cache c)
       → ((low : b < blocks) → (h : Holdings) × GoesOn me s core.net.links (taken core.net.links from me Main) h b (p.follows b low).entry (view p.whole b).block
-      × (h.records ≡ (p.follows b low).h.records) × ((i : ℕ) → i ≢ me → h.places i ≡ (p.follows b low).h.places i) × (h.places me ≡ place_at m.cache b))
-      → Plays count steps blocks (taken core.net.links from me Main) core.net.masters (slice_set insts me m)
+      × (h.records ≡ (p.follows b low).h.records) × ((i : ℕ) → i ≢ me → h.places i ≡ (p.follows b low).h.places i) × (h.places me ≡ place_at m.cache b) × IsOnDisk disk b h.disk)
+      → Plays count steps blocks (taken core.net.links from me Main) core.net.masters (slice_set insts me m) disk
   plays-silent from s b message m first about alike clock places law =
       let left : List (List Packet) = taken core.net.links from me Main in
       let sender : from < 8 = (comes from s message first).sender in
-      plays-takes count steps blocks core.net.links core.net.masters insts p me n m at alike b s left (taken-sized core.net.links from me Main p.sized)
+      plays-takes count steps blocks core.net.links core.net.masters insts disk p me n m at alike b s left (taken-sized core.net.links from me Main p.sized)
       (λ c ne. others-taken c from me s Main message core.net.links p.sized sender low-me first (λ is. ne (sym (some-one b c (sym about ∙ is)))))
       (sane-taken (newest p.whole) core.net.links from me Main p.sane) clock places law
+
+  -- one that is about no block is taken from either lane
+  pub plays-hearing : (from s : ℕ) (lane : Lane) (message : Message) (m : Inst) → first_from core from me lane ≡ Some (record { scn = s; message = message }) → block_of message ≡ None
+      → Alike n m → max n.clock.scn s ≡ m.clock.scn → ((c : ℕ) → place_at m.cache c ≡ place_at n.cache c)
+      → Plays count steps blocks (taken core.net.links from me lane) core.net.masters (slice_set insts me m) disk
+  plays-hearing from s lane message m first about alike clock places =
+      plays-rises count steps blocks core.net.links core.net.masters insts disk p me n m at alike s (taken core.net.links from me lane) disk clock (λ c low. places c) (λ c low. refl) (taken-sized core.net.links from me lane p.sized)
+      (λ c low. others-taken c from me s lane message core.net.links p.sized (first-low core.net.links from me lane (record { scn = s; message = message }) p.sized low-me first) low-me first (λ is. none-some c (sym about ∙ is)))
+      (sane-taken (newest p.whole) core.net.links from me lane p.sane)
 
   -- it acts and tells
   pub plays-telling : (b : BlockNo) (message : Message) (to : ℕ) (m : Inst) → block_of message ≡ Some b → to < 8 → IsSane (newest p.whole) message → Alike n m → n.clock.scn ≡ m.clock.scn → ((c : ℕ) → c ≢ b → place_at m.cache c ≡ place_at n.cache c)
       → ((low : b < blocks) → (h : Holdings) × Does me core.net.links (told me to message (p.follows b low).h core.net.links) h b (p.follows b low).entry (view p.whole b).block
-      × (h.records ≡ (p.follows b low).h.records) × ((i : ℕ) → i ≢ me → h.places i ≡ (p.follows b low).h.places i) × (h.places me ≡ place_at m.cache b))
-      → Plays count steps blocks (sent core.net.links me to (record { scn = n.clock.scn; message = message })) core.net.masters (slice_set insts me m)
+      × (h.records ≡ (p.follows b low).h.records) × ((i : ℕ) → i ≢ me → h.places i ≡ (p.follows b low).h.places i) × (h.places me ≡ place_at m.cache b) × IsOnDisk disk b h.disk)
+      → Plays count steps blocks (sent core.net.links me to (record { scn = n.clock.scn; message = message })) core.net.masters (slice_set insts me m) disk
   plays-telling b message to m about there sane alike clock places law =
       let packet : Packet = record { scn = n.clock.scn; message = message } in
-      plays-acts count steps blocks core.net.links core.net.masters insts p me n m at alike b (sent core.net.links me to packet) (sent-sized core.net.links me to packet p.sized)
+      plays-acts count steps blocks core.net.links core.net.masters insts disk p me n m at alike b (sent core.net.links me to packet) disk (sent-sized core.net.links me to packet p.sized)
       (λ c ne. others-sent c me to n.clock.scn message core.net.links p.sized low-me there (λ is. ne (sym (some-one b c (sym about ∙ is)))))
-      (sane-sent (newest p.whole) core.net.links me to packet p.sane sane) clock places
+      (sane-sent (newest p.whole) core.net.links me to packet p.sane sane) (λ c ne. refl) clock places
       (λ low.
       let k = law low in
-      (k.0, subst (λ (c : ℕ). Does me core.net.links (sent core.net.links me to (record { scn = c; message = message })) k.0 b (p.follows b low).entry (view p.whole b).block) (had-clock b low) k.1, k.2, k.3, k.4))
+      (k.0, subst (λ (c : ℕ). Does me core.net.links (sent core.net.links me to (record { scn = c; message = message })) k.0 b (p.follows b low).entry (view p.whole b).block) (had-clock b low) k.1, k.2, k.3, k.4, k.5))

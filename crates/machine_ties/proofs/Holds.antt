@@ -13,6 +13,7 @@ use Rattle.inst_state.specs.declared.inst.Leading.{Leading}
 use Rattle.inst_state.specs.declared.inst.Mastering.{Mastering}
 use Rattle.inst_state.specs.declared.plan.Plan.{Plan}
 use Rattle.inst_state.specs.State.{newest_at}
+use Rattle.rac_disk.specs.Content.{Content, block_at}
 use Rattle.redo_thread.specs.Thread.{ThreadState, end_of}
 use Rattle.image_steps.specs.MasterTake.{is_master}
 use Rattle.block_protocol.specs.AllBlocks.{view}
@@ -29,7 +30,7 @@ use Rattle.machine_ties.specs.InstPlaces.{place_of}
 use Rattle.machine_ties.proofs.Led.{Led}
 use Rattle.machine_ties.specs.Sane.{AreSaneLinks}
 use Rattle.machine_ties.proofs.Links.{links-later, queue-later}
-use Rattle.machine_ties.specs.Plays.{AreOfBlocks, Follows, IsFine, Plays, Serves, clock_of, newest}
+use Rattle.machine_ties.specs.Plays.{AreOfBlocks, Follows, IsFine, IsOnDisk, Plays, Serves, clock_of, newest}
 use Rattle.machine_ties.proofs.Plays.{durable-before, each-after, other-clocks, other-links, read-after, same-or-not, set-here, set-there}
 
 -- What a step with an image leaves of an instance: all but its clock, its cache, its sessions and its wave.
@@ -114,7 +115,11 @@ pub holder-place : {me : ℕ} {s t : Block} → HolderRun me s t → t.place ≡
 holder-place (stays s) = refl
 holder-place {me = me} (goes step is rest) = holder-place rest ∙ place-step me step is
 
-module _ (count steps blocks : ℕ) (links : List (List Packet)) (masters : Masters) (insts : List Inst) (p : Plays count steps blocks links masters insts)
+-- the disk's image of a block is as it was where its bytes are
+on-disk-still : (disk later : Content) (b version : ℕ) → block_at later b ≡ block_at disk b → IsOnDisk disk b version → IsOnDisk later b version
+on-disk-still disk later b version same is = record { image = is.image; bytes = same ∙ is.bytes; numbered = is.numbered }
+
+module _ (count steps blocks : ℕ) (links : List (List Packet)) (masters : Masters) (insts : List Inst) (disk : Content) (p : Plays count steps blocks links masters insts disk)
     (me : ℕ) (n m : Inst) (at : slice_get insts me ≡ Some n) (alike : Alike n m) where
   abbrev later : List Inst
   later = slice_set insts me m
@@ -140,9 +145,9 @@ module _ (count steps blocks : ℕ) (links : List (List Packet)) (masters : Mast
   newest-same b = ap (λ (places : List ℕ). slice_index_or places b 0) alike.newest
 
   -- another block follows on, whose clocks and links are others
-  pub other-follows : (b c : BlockNo) (after : Block) (clock : ℕ → Scn) (links_now : List (List Packet)) → (led : Led p.whole clock b after) → AreLinks links_now → Same (bag_of c links) (bag_of c links_now)
-      → (place_at m.cache c ≡ place_at n.cache c) → c ≢ b → Follows links insts p.whole c → Follows links_now later led.last c
-  other-follows b c after clock links_now led sized bag same ne f =
+  pub other-follows : (b c : BlockNo) (after : Block) (clock : ℕ → Scn) (links_now : List (List Packet)) (disk_now : Content) → (led : Led p.whole clock b after) → AreLinks links_now → Same (bag_of c links) (bag_of c links_now)
+      → (place_at m.cache c ≡ place_at n.cache c) → (block_at disk_now c ≡ block_at disk c) → c ≢ b → Follows links insts disk p.whole c → Follows links_now later disk_now led.last c
+  other-follows b c after clock links_now disk_now led sized bag same bytes ne f =
       let seat = seat-after f.master f.seat f.there in
       let here : (view led.last c).block ≡ record (view p.whole c).block { clock = clock } = led.others c ne in
       record {
@@ -152,6 +157,7 @@ module _ (count steps blocks : ℕ) (links : List (List Packet)) (masters : Mast
             (other-links links links_now (record f.h { clock = clock }) c f.entry (record (view p.whole c).block { clock = clock })
             (other-clocks links f.h c f.entry (view p.whole c).block clock f.shown) sized bag);
         places = read-after insts me n m at (λ (o : Option Inst). place_of o c) f.h.places (λ i apart. f.places i) (f.places me ∙ ap (λ (o : Option Inst). place_of o c) at ∙ sym same);
+        on_disk = on-disk-still disk disk_now c f.h.disk bytes f.on_disk;
         master = f.master;
         seat = seat.0;
         there = seat.1;
@@ -162,7 +168,7 @@ module _ (count steps blocks : ℕ) (links : List (List Packet)) (masters : Mast
       }
 
   -- What an instance did with its image of a block, as the protocol has it.
-  pub record Did (b : BlockNo) (f : Follows links insts p.whole b) (clock : ℕ → Scn) (links_now : List (List Packet)) (after : Block) (h : Holdings) : Type 0 where
+  pub record Did (b : BlockNo) (f : Follows links insts disk p.whole b) (clock : ℕ → Scn) (links_now : List (List Packet)) (disk_now : Content) (after : Block) (h : Holdings) : Type 0 where
     pub led : Led p.whole clock b after
     pub shown : IsShown links_now h b f.entry after
     pub bags : (d : BlockNo) → d ≢ b → Same (bag_of d links) (bag_of d links_now)
@@ -170,15 +176,17 @@ module _ (count steps blocks : ℕ) (links : List (List Packet)) (masters : Mast
     pub records : after.records ≡ (view p.whole b).block.records
     pub others : (i : ℕ) → i ≢ me → h.places i ≡ f.h.places i
     pub own : h.places me ≡ place_at m.cache b
+    pub on_disk : IsOnDisk disk_now b h.disk
 
-  this-follows : (b : BlockNo) (f : Follows links insts p.whole b) (clock : ℕ → Scn) (links_now : List (List Packet)) (after : Block) (h : Holdings) (it : Did b f clock links_now after h) → Follows links_now later it.led.last b
-  this-follows b f clock links_now after h it =
+  this-follows : (b : BlockNo) (f : Follows links insts disk p.whole b) (clock : ℕ → Scn) (links_now : List (List Packet)) (disk_now : Content) (after : Block) (h : Holdings) (it : Did b f clock links_now disk_now after h) → Follows links_now later disk_now it.led.last b
+  this-follows b f clock links_now disk_now after h it =
       let seat = seat-after f.master f.seat f.there in
       record {
         entry = f.entry;
         h = h;
         shown = subst (λ (s : Block). IsShown links_now h b f.entry s) (sym it.led.here) it.shown;
         places = read-after insts me n m at (λ (o : Option Inst). place_of o b) h.places (λ i apart. it.others i apart ∙ f.places i) it.own;
+        on_disk = it.on_disk;
         master = f.master;
         seat = seat.0;
         there = seat.1;
@@ -190,10 +198,10 @@ module _ (count steps blocks : ℕ) (links : List (List Packet)) (masters : Mast
       }
 
   -- all blocks play on
-  pub plays-on : (b : BlockNo) → b < blocks → (f : Follows links insts p.whole b) (clock : ℕ → Scn) (links_now : List (List Packet)) (after : Block) (h : Holdings) (it : Did b f clock links_now after h)
-      → ((i : ℕ) → i ≢ me → clock i ≡ p.whole.clock i) → clock me ≡ m.clock.scn → ((c : ℕ) → c ≢ b → place_at m.cache c ≡ place_at n.cache c) → AreSaneLinks (newest p.whole) links_now
-      → Plays count steps blocks links_now masters later
-  plays-on b few f clock links_now after h it others own places sane =
+  pub plays-on : (b : BlockNo) → b < blocks → (f : Follows links insts disk p.whole b) (clock : ℕ → Scn) (links_now : List (List Packet)) (disk_now : Content) (after : Block) (h : Holdings) (it : Did b f clock links_now disk_now after h)
+      → ((c : ℕ) → c ≢ b → block_at disk_now c ≡ block_at disk c) → ((i : ℕ) → i ≢ me → clock i ≡ p.whole.clock i) → clock me ≡ m.clock.scn → ((c : ℕ) → c ≢ b → place_at m.cache c ≡ place_at n.cache c) → AreSaneLinks (newest p.whole) links_now
+      → Plays count steps blocks links_now masters later disk_now
+  plays-on b few f clock links_now disk_now after h it disks others own places sane =
       let led = it.led in
       let made : (c : ℕ) → newest led.last c ≡ newest p.whole c = λ c. made-same c (same-or-not c b) in
       record {
@@ -209,6 +217,7 @@ module _ (count steps blocks : ℕ) (links : List (List Packet)) (masters : Mast
         named = p.named;
         clocks = read-after insts me n m at clock_of led.last.clock (λ i apart. ap (λ (c : ℕ → Scn). c i) led.clocks ∙ others i apart ∙ p.clocks i) (ap (λ (c : ℕ → Scn). c me) led.clocks ∙ own);
         sane = links-later (newest p.whole) (newest led.last) (λ c. let same = made c in omega (arith, same)) links_now sane;
+        made = λ c. let same = made c in let few = p.made c in omega (arith, same, few);
         entries = λ j x d what is_there is_it. each-after insts me n m at (λ i k. (c : BlockNo) (entry : Entry) → entry_of k.mastering.directory c ≡ Some entry → IsFine (newest led.last) steps c entry)
             (λ i k is c entry e. fine-still c entry made (p.entries i k c entry is e))
             (λ c entry e. fine-still c entry made (p.entries me n c entry at (sym (ap (λ (g : Mastering). entry_of g.directory c) alike.mastering) ∙ e))) j x is_there d what is_it;
@@ -226,6 +235,6 @@ module _ (count steps blocks : ℕ) (links : List (List Packet)) (masters : Mast
         drawn = fine.drawn;
       }
 
-      follows-at : (c : BlockNo) → c < blocks → (c ≡ b) ⊎ (c ≢ b) → Follows links_now later it.led.last c
-      follows-at c low (inl e) = subst (λ (d : ℕ). Follows links_now later it.led.last d) (sym e) (this-follows b f clock links_now after h it)
-      follows-at c low (inr ne) = other-follows b c after clock links_now it.led it.shown.sized (it.bags c ne) (places c ne) ne (p.follows c low)
+      follows-at : (c : BlockNo) → c < blocks → (c ≡ b) ⊎ (c ≢ b) → Follows links_now later disk_now it.led.last c
+      follows-at c low (inl e) = subst (λ (d : ℕ). Follows links_now later disk_now it.led.last d) (sym e) (this-follows b f clock links_now disk_now after h it)
+      follows-at c low (inr ne) = other-follows b c after clock links_now disk_now it.led it.shown.sized (it.bags c ne) (places c ne) (disks c ne) ne (p.follows c low)

@@ -13,6 +13,7 @@ use Rattle.buffer_cache.specs.declared.place.Current.{Current}
 use Rattle.buffer_cache.specs.declared.place.Place.{Place}
 use Rattle.buffer_cache.specs.Cache.{place_at}
 use Rattle.buffer_cache.specs.Place.{without_grant}
+use Rattle.rac_disk.specs.Content.{Content}
 use Rattle.inst_state.specs.declared.inst.Inst.{Inst}
 use Rattle.inst_state.specs.declared.shared.Core.{Core}
 use Rattle.inst_state.specs.Sending.{first_from}
@@ -28,7 +29,7 @@ use Rattle.image_steps.specs.declared.copying.CopyOrder.{CopyOrder}
 use Rattle.image_steps.specs.Ship.{first_order, follow_sent, followed, is_shippable, kept_behind, may_ship, moving, order_of, sent_for, sharing, ship_sent, shipped}
 use Rattle.image_steps.specs.ServeCopy.{first_copy_order, copy_order_of, copy_sent, copy_sent_by, copy_sent_of, may_serve_copy}
 use Rattle.block_protocol.specs.AllBlocks.{view}
-use Rattle.block_protocol.specs.Invariant.{HoldsIn, Invariant}
+use Rattle.block_protocol.specs.Invariant.{Era, HoldsIn, Invariant}
 use Rattle.block_protocol.specs.Members.{Phase}
 use Rattle.block_protocol.specs.Whole.{Whole}
 use Rattle.block_protocol.proofs.AllBlocksLemmas.{invariant-first, invariant-of-run}
@@ -77,7 +78,7 @@ not-dirty : (t : Bool) → not t ≡ true → t ≡ false
 not-dirty true e = absurd (let clash : false ≡ true = e in cc)
 not-dirty false e = refl
 
-module _ (count steps blocks : ℕ) (core : Core) (insts : List Inst) (p : Plays count steps blocks core.net.links core.net.masters insts) (n : Inst) (at : slice_get insts n.plan.me ≡ Some n) (from : ℕ) where
+module _ (count steps blocks : ℕ) (core : Core) (insts : List Inst) (disk : Content) (p : Plays count steps blocks core.net.links core.net.masters insts disk) (n : Inst) (at : slice_get insts n.plan.me ≡ Some n) (from : ℕ) where
   abbrev me : ℕ
   me = n.plan.me
 
@@ -89,38 +90,42 @@ module _ (count steps blocks : ℕ) (core : Core) (insts : List Inst) (p : Plays
 
   invalidate-of : (s : ℕ) (message : Message) → first_from core from me Main ≡ Some (record { scn = s; message = message }) → may_go n (image_to_go (Some message)) ≡ true
       → let o : Option Packet = Some (record { scn = s; message = message }) in
-      Plays count steps blocks (gone_sent (risen_inst o) (heard n core from Main) (image_to_go (Some message))).net.links core.net.masters (slice_set insts me (without_image (risen_inst o) (image_to_go (Some message))))
+      Plays count steps blocks (gone_sent (risen_inst o) (heard n core from Main) (image_to_go (Some message))).net.links core.net.masters (slice_set insts me (without_image (risen_inst o) (image_to_go (Some message)))) disk
   invalidate-of s (messages.Invalidate b g) first may =
       let o : Option Packet = Some (record { scn = s; message = messages.Invalidate b g }) in
       let m : Inst = without_image (risen_inst o) (Some (record { block = b; grant = g })) in
-      plays-answering count steps blocks core insts p n at from s b (messages.Invalidate b g) (messages.Gone b g) (master_of core.net.masters b) m first refl refl (p.named b) tt
+      plays-answering count steps blocks core insts disk p n at from s b (messages.Invalidate b g) (messages.Gone b g) (master_of core.net.masters b) m first refl refl (p.named b) tt
       (alike-at n m refl refl refl refl refl refl refl (place-long (without_grant g) n.cache b)
       (λ are. numbers-place (without_grant g) n.cache b are (λ now held. unless-number g b (place_at n.cache b).current now (λ x is. are b x is) held))) refl
       (λ c ne. place-other (without_grant g) n.cache b c ne)
       (λ low.
       let f = p.follows b low in (
         with_place me (without_grant g (f.h.places me)) (risen me s f.h),
-        invalidate-is-obeyed me from (master_of core.net.masters b) s g core.net.links f.h b f.entry _ f.shown (comes count steps blocks core insts p n at from s (messages.Invalidate b g) first) (p.named b),
+        invalidate-is-obeyed me from (master_of core.net.masters b) s g core.net.links f.h b f.entry _ f.shown (comes count steps blocks core insts disk p n at from s (messages.Invalidate b g) first) (p.named b),
         refl,
         (λ i apart. put-other f.h.places me (without_grant g (f.h.places me)) i (λ e. apart (sym e))),
-        put-same f.h.places me (without_grant g (f.h.places me)) ∙ ap (without_grant g) (own-place count steps blocks core insts p n at b low) ∙ sym (place-own (without_grant g) n.cache b (within count steps blocks core insts p n at b low)),
+        put-same f.h.places me (without_grant g (f.h.places me)) ∙ ap (without_grant g) (own-place count steps blocks core insts disk p n at b low) ∙ sym (place-own (without_grant g) n.cache b (within count steps blocks core insts disk p n at b low)),
+        f.on_disk,
       ))
   invalidate-of s _ first may = absurd (let clash : false ≡ true = may in cc)
 
   invalidate-by : (o : Option Packet) → first_from core from me Main ≡ o → may_go n (image_to_go (option_map (λ (packet : Packet). packet.message) o)) ≡ true
-      → Plays count steps blocks (gone_sent (risen_inst o) (heard n core from Main) (image_to_go (option_map (λ (packet : Packet). packet.message) o))).net.links core.net.masters (slice_set insts me (without_image (risen_inst o) (image_to_go (option_map (λ (packet : Packet). packet.message) o))))
+      → Plays count steps blocks (gone_sent (risen_inst o) (heard n core from Main) (image_to_go (option_map (λ (packet : Packet). packet.message) o))).net.links core.net.masters (slice_set insts me (without_image (risen_inst o) (image_to_go (option_map (λ (packet : Packet). packet.message) o)))) disk
   invalidate-by None first may = absurd (let clash : false ≡ true = may in cc)
   invalidate-by (Some packet) first may = invalidate-of packet.scn packet.message first may
 
-  pub invalidate-plays : may_invalidate n core from ≡ true → Plays count steps blocks (invalidate_sent n core from).net.links core.net.masters (slice_set insts me (invalidated n core from))
+  pub invalidate-plays : may_invalidate n core from ≡ true → Plays count steps blocks (invalidate_sent n core from).net.links core.net.masters (slice_set insts me (invalidated n core from)) disk
   invalidate-plays may = invalidate-by (first_from core from me Main) refl may
 
   -- ---- what holds of a block in each state
 
-  pub whole-at : (b : BlockNo) → Whole (view p.whole b).block
-  whole-at b =
+  pub era-at : (b : BlockNo) → Era (view p.whole b)
+  era-at b =
       let it : Invariant (view p.whole b) = invariant-of-run p.run (invariant-first count p.first_master) b in
-      (subst (λ (x : Phase). HoldsIn x (view p.whole b)) p.phase it.holds).whole
+      subst (λ (x : Phase). HoldsIn x (view p.whole b)) p.phase it.holds
+
+  pub whole-at : (b : BlockNo) → Whole (view p.whole b).block
+  whole-at b = (era-at b).whole
 
   -- ---- Ship
 
@@ -143,7 +148,7 @@ module _ (count steps blocks : ℕ) (core : Core) (insts : List Inst) (p : Plays
   kept-numbered now = go now.dirty
     where
       go : (t : Bool) → IsPastNumbered (if t then Some (record { inst = me; version = now.image.front.version }) else None)
-      go true = low-me count steps blocks core insts p n at
+      go true = low-me count steps blocks core insts disk p n at
       go false = tt
 
   abbrev packet_of : ℕ → Message → Option Packet
@@ -151,7 +156,7 @@ module _ (count steps blocks : ℕ) (core : Core) (insts : List Inst) (p : Plays
 
   ship-to : (s b g new asker : ℕ) → first_from core from me Main ≡ packet_of s (messages.ShipTo b g new asker) → is_forced n ≡ true
       → let order : Order = record { block = b; grant = g; new_grant = new; asker = asker; shared = false } in
-      Plays count steps blocks (follow_sent (risen_inst (packet_of s (messages.ShipTo b g new asker))) (heard n core from Main) (Some order)).net.links core.net.masters (slice_set insts me (followed (risen_inst (packet_of s (messages.ShipTo b g new asker))) (Some order)))
+      Plays count steps blocks (follow_sent (risen_inst (packet_of s (messages.ShipTo b g new asker))) (heard n core from Main) (Some order)).net.links core.net.masters (slice_set insts me (followed (risen_inst (packet_of s (messages.ShipTo b g new asker))) (Some order))) disk
   ship-to s b g new asker first none = go (place_at n.cache b).current refl
     where
       message : Message
@@ -169,41 +174,43 @@ module _ (count steps blocks : ℕ) (core : Core) (insts : List Inst) (p : Plays
       alike : Alike n after
       alike = alike-at n after refl refl refl refl refl refl refl (place-long given_up n.cache b) (λ are. numbers-place given_up n.cache b are (λ now held. absurd (none-some now held)))
 
-      go : (c : Option Current) → (place_at n.cache b).current ≡ c → Plays count steps blocks (sent_for shown (heard n core from Main) order (option_map (moving me order) (place_at n.cache b).current)).net.links core.net.masters (slice_set insts me after)
+      go : (c : Option Current) → (place_at n.cache b).current ≡ c → Plays count steps blocks (sent_for shown (heard n core from Main) order (option_map (moving me order) (place_at n.cache b).current)).net.links core.net.masters (slice_set insts me after) disk
       go None empty =
-          subst (λ (c : Option Current). Plays count steps blocks (sent_for shown (heard n core from Main) order (option_map (moving me order) c)).net.links core.net.masters (slice_set insts me after)) (sym empty)
-          (plays-answering count steps blocks core insts p n at from s b message (messages.Back (unfound.ShipTo b g new asker)) (master_of core.net.masters b) after first refl refl (p.named b)
-          (heard-sane count steps blocks core insts p n at from s Main message first) alike refl (λ c ne. place-other given_up n.cache b c ne)
+          subst (λ (c : Option Current). Plays count steps blocks (sent_for shown (heard n core from Main) order (option_map (moving me order) c)).net.links core.net.masters (slice_set insts me after) disk) (sym empty)
+          (plays-answering count steps blocks core insts disk p n at from s b message (messages.Back (unfound.ShipTo b g new asker)) (master_of core.net.masters b) after first refl refl (p.named b)
+          (heard-sane count steps blocks core insts disk p n at from s Main message first) alike refl (λ c ne. place-other given_up n.cache b c ne)
           (λ low.
           let f = p.follows b low in (
             risen me s f.h,
-            ship-comes-back me from (master_of core.net.masters b) s g new asker core.net.links f.h b f.entry _ f.shown (comes count steps blocks core insts p n at from s message first) (p.named b)
-                (ap (λ (q : Place). q.current) (own-place count steps blocks core insts p n at b low) ∙ empty),
+            ship-comes-back me from (master_of core.net.masters b) s g new asker core.net.links f.h b f.entry _ f.shown (comes count steps blocks core insts disk p n at from s message first) (p.named b)
+                (ap (λ (q : Place). q.current) (own-place count steps blocks core insts disk p n at b low) ∙ empty),
             refl,
             (λ i apart. refl),
-            own-place count steps blocks core insts p n at b low ∙ sym (none-given (place_at n.cache b) empty) ∙ sym (place-own given_up n.cache b (within count steps blocks core insts p n at b low)),
+            own-place count steps blocks core insts disk p n at b low ∙ sym (none-given (place_at n.cache b) empty) ∙ sym (place-own given_up n.cache b (within count steps blocks core insts disk p n at b low)),
+            f.on_disk,
           )))
       go (Some now) held =
-          subst (λ (c : Option Current). Plays count steps blocks (sent_for shown (heard n core from Main) order (option_map (moving me order) c)).net.links core.net.masters (slice_set insts me after)) (sym held)
-          (plays-answering count steps blocks core insts p n at from s b message (messages.Shipped (moving me order now)) asker after first refl refl
-          (heard-sane count steps blocks core insts p n at from s Main message first) (kept-numbered now, (p.each me n at).numbers b now held) alike refl (λ c ne. place-other given_up n.cache b c ne)
+          subst (λ (c : Option Current). Plays count steps blocks (sent_for shown (heard n core from Main) order (option_map (moving me order) c)).net.links core.net.masters (slice_set insts me after) disk) (sym held)
+          (plays-answering count steps blocks core insts disk p n at from s b message (messages.Shipped (moving me order now)) asker after first refl refl
+          (heard-sane count steps blocks core insts disk p n at from s Main message first) (kept-numbered now, (p.each me n at).numbers b now held) alike refl (λ c ne. place-other given_up n.cache b c ne)
           (λ low.
           let f = p.follows b low in (
             with_place me (given_up (f.h.places me)) (risen me s f.h),
-            image-is-shipped me from s g new asker now (moving me order now) core.net.links f.h b f.entry _ f.shown (comes count steps blocks core insts p n at from s message first)
-                (ap (λ (q : Place). q.current) (own-place count steps blocks core insts p n at b low) ∙ held) (forced none b low) (record { numbered = refl; granted = refl; image = refl; dirty = refl }) refl,
+            image-is-shipped me from s g new asker now (moving me order now) core.net.links f.h b f.entry _ f.shown (comes count steps blocks core insts disk p n at from s message first)
+                (ap (λ (q : Place). q.current) (own-place count steps blocks core insts disk p n at b low) ∙ held) (forced none b low) (record { numbered = refl; granted = refl; image = refl; dirty = refl }) refl,
             refl,
             (λ i apart. put-other f.h.places me (given_up (f.h.places me)) i (λ e. apart (sym e))),
-            put-same f.h.places me (given_up (f.h.places me)) ∙ ap given_up (own-place count steps blocks core insts p n at b low) ∙ sym (place-own given_up n.cache b (within count steps blocks core insts p n at b low)),
+            put-same f.h.places me (given_up (f.h.places me)) ∙ ap given_up (own-place count steps blocks core insts disk p n at b low) ∙ sym (place-own given_up n.cache b (within count steps blocks core insts disk p n at b low)),
+            f.on_disk,
           )))
 
   -- a shared image is held shared, and the disk has it
   shared-clean : (s b g new asker : ℕ) → first_from core from me Main ≡ packet_of s (messages.ShareTo b g new asker) → (low : b < blocks) → (now : Current) → (place_at n.cache b).current ≡ Some now → (is_shared now.mode && not now.dirty) ≡ true
   shared-clean s b g new asker first low now held =
       let f = p.follows b low in
-      let there : (f.h.places me).current ≡ Some now = ap (λ (q : Place). q.current) (own-place count steps blocks core insts p n at b low) ∙ held in
+      let there : (f.h.places me).current ≡ Some now = ap (λ (q : Place). q.current) (own-place count steps blocks core insts disk p n at b low) ∙ held in
       let granted : Hold = record { mode = Shared; grant = new } in
-      let it = ordered me from s core.net.links f.h b f.entry (view p.whole b).block f.shown (messages.ShareTo b g new asker) refl (comes count steps blocks core insts p n at from s (messages.ShareTo b g new asker) first) g asker granted refl in
+      let it = ordered me from s core.net.links f.h b f.entry (view p.whole b).block f.shown (messages.ShareTo b g new asker) refl (comes count steps blocks core insts disk p n at from s (messages.ShareTo b g new asker) first) g asker granted refl in
       let image = one-held (view p.whole b).block f.h.places me now f.shown.around.images there in
       let was = Sound-at (view p.whole b).block (Grants asker granted (ShipTo me g)) it.0 f.shown.sound in
       let same : image.0 ≡ record { mode = Shared; grant = g } = was.operation.carrier.image image.0 image.1 in
@@ -214,7 +221,7 @@ module _ (count steps blocks : ℕ) (core : Core) (insts : List Inst) (p : Plays
 
   share-to : (s b g new asker : ℕ) → first_from core from me Main ≡ packet_of s (messages.ShareTo b g new asker) → is_forced n ≡ true
       → let order : Order = record { block = b; grant = g; new_grant = new; asker = asker; shared = true } in
-      Plays count steps blocks (follow_sent (risen_inst (packet_of s (messages.ShareTo b g new asker))) (heard n core from Main) (Some order)).net.links core.net.masters (slice_set insts me (followed (risen_inst (packet_of s (messages.ShareTo b g new asker))) (Some order)))
+      Plays count steps blocks (follow_sent (risen_inst (packet_of s (messages.ShareTo b g new asker))) (heard n core from Main) (Some order)).net.links core.net.masters (slice_set insts me (followed (risen_inst (packet_of s (messages.ShareTo b g new asker))) (Some order))) disk
   share-to s b g new asker first none = go (place_at n.cache b).current refl
     where
       message : Message
@@ -229,64 +236,66 @@ module _ (count steps blocks : ℕ) (core : Core) (insts : List Inst) (p : Plays
       alike : Alike n shown
       alike = alike-at n shown refl refl refl refl refl refl refl refl (λ are. are)
 
-      back : ((low : b < blocks) → (place_at n.cache b).current ≡ None) → Plays count steps blocks (sent_for shown (heard n core from Main) order None).net.links core.net.masters (slice_set insts me shown)
+      back : ((low : b < blocks) → (place_at n.cache b).current ≡ None) → Plays count steps blocks (sent_for shown (heard n core from Main) order None).net.links core.net.masters (slice_set insts me shown) disk
       back empty =
-          plays-answering count steps blocks core insts p n at from s b message (messages.Back (unfound.ShareTo b g new asker)) (master_of core.net.masters b) shown first refl refl (p.named b)
-          (heard-sane count steps blocks core insts p n at from s Main message first) alike refl (λ c ne. refl)
+          plays-answering count steps blocks core insts disk p n at from s b message (messages.Back (unfound.ShareTo b g new asker)) (master_of core.net.masters b) shown first refl refl (p.named b)
+          (heard-sane count steps blocks core insts disk p n at from s Main message first) alike refl (λ c ne. refl)
           (λ low.
           let f = p.follows b low in (
             risen me s f.h,
-            share-comes-back me from (master_of core.net.masters b) s g new asker core.net.links f.h b f.entry _ f.shown (comes count steps blocks core insts p n at from s message first) (p.named b)
-                (ap (λ (q : Place). q.current) (own-place count steps blocks core insts p n at b low) ∙ empty low),
+            share-comes-back me from (master_of core.net.masters b) s g new asker core.net.links f.h b f.entry _ f.shown (comes count steps blocks core insts disk p n at from s message first) (p.named b)
+                (ap (λ (q : Place). q.current) (own-place count steps blocks core insts disk p n at b low) ∙ empty low),
             refl,
             (λ i apart. refl),
-            own-place count steps blocks core insts p n at b low,
+            own-place count steps blocks core insts disk p n at b low,
+            f.on_disk,
           ))
 
-      out : (now : Current) → (place_at n.cache b).current ≡ Some now → now.dirty ≡ false → Plays count steps blocks (sent_for shown (heard n core from Main) order (Some (sharing order now.image))).net.links core.net.masters (slice_set insts me shown)
+      out : (now : Current) → (place_at n.cache b).current ≡ Some now → now.dirty ≡ false → Plays count steps blocks (sent_for shown (heard n core from Main) order (Some (sharing order now.image))).net.links core.net.masters (slice_set insts me shown) disk
       out now held clean =
-          plays-answering count steps blocks core insts p n at from s b message (messages.Shipped (sharing order now.image)) asker shown first refl refl
-          (heard-sane count steps blocks core insts p n at from s Main message first) (tt, (p.each me n at).numbers b now held) alike refl (λ c ne. refl)
+          plays-answering count steps blocks core insts disk p n at from s b message (messages.Shipped (sharing order now.image)) asker shown first refl refl
+          (heard-sane count steps blocks core insts disk p n at from s Main message first) (tt, (p.each me n at).numbers b now held) alike refl (λ c ne. refl)
           (λ low.
           let f = p.follows b low in (
             risen me s f.h,
-            image-is-shared me from s g new asker now (sharing order now.image) core.net.links f.h b f.entry _ f.shown (comes count steps blocks core insts p n at from s message first)
-                (ap (λ (q : Place). q.current) (own-place count steps blocks core insts p n at b low) ∙ held) (forced none b low) (record { numbered = refl; granted = refl; image = refl; dirty = sym clean }) refl,
+            image-is-shared me from s g new asker now (sharing order now.image) core.net.links f.h b f.entry _ f.shown (comes count steps blocks core insts disk p n at from s message first)
+                (ap (λ (q : Place). q.current) (own-place count steps blocks core insts disk p n at b low) ∙ held) (forced none b low) (record { numbered = refl; granted = refl; image = refl; dirty = sym clean }) refl,
             refl,
             (λ i apart. refl),
-            own-place count steps blocks core insts p n at b low,
+            own-place count steps blocks core insts disk p n at b low,
+            f.on_disk,
           ))
 
       pick : (now : Current) → (place_at n.cache b).current ≡ Some now → (t : Bool) → (is_shared now.mode && not now.dirty) ≡ t
-          → Plays count steps blocks (sent_for shown (heard n core from Main) order (option_map (sharing order) (if t then Some now.image else None))).net.links core.net.masters (slice_set insts me shown)
+          → Plays count steps blocks (sent_for shown (heard n core from Main) order (option_map (sharing order) (if t then Some now.image else None))).net.links core.net.masters (slice_set insts me shown) disk
       pick now held true e = out now held (not-dirty now.dirty (and_parts (is_shared now.mode) (not now.dirty) e).1)
       pick now held false e = back (λ low. absurd (true≢false (sym (shared-clean s b g new asker first low now held) ∙ e)))
 
-      go : (c : Option Current) → (place_at n.cache b).current ≡ c → Plays count steps blocks (sent_for shown (heard n core from Main) order (option_map (sharing order) (shareable (place_at n.cache b).current))).net.links core.net.masters (slice_set insts me shown)
-      go None empty = subst (λ (c : Option Current). Plays count steps blocks (sent_for shown (heard n core from Main) order (option_map (sharing order) (shareable c))).net.links core.net.masters (slice_set insts me shown)) (sym empty) (back (λ low. empty))
+      go : (c : Option Current) → (place_at n.cache b).current ≡ c → Plays count steps blocks (sent_for shown (heard n core from Main) order (option_map (sharing order) (shareable (place_at n.cache b).current))).net.links core.net.masters (slice_set insts me shown) disk
+      go None empty = subst (λ (c : Option Current). Plays count steps blocks (sent_for shown (heard n core from Main) order (option_map (sharing order) (shareable c))).net.links core.net.masters (slice_set insts me shown) disk) (sym empty) (back (λ low. empty))
       go (Some now) held =
-          subst (λ (c : Option Current). Plays count steps blocks (sent_for shown (heard n core from Main) order (option_map (sharing order) (shareable c))).net.links core.net.masters (slice_set insts me shown)) (sym held)
+          subst (λ (c : Option Current). Plays count steps blocks (sent_for shown (heard n core from Main) order (option_map (sharing order) (shareable c))).net.links core.net.masters (slice_set insts me shown) disk) (sym held)
           (pick now held (is_shared now.mode && not now.dirty) refl)
 
   ship-of : (s : ℕ) (message : Message) → first_from core from me Main ≡ packet_of s message → is_forced n ≡ true → is_shippable n (order_of (Some message)) ≡ true
-      → Plays count steps blocks (follow_sent (risen_inst (packet_of s message)) (heard n core from Main) (order_of (Some message))).net.links core.net.masters (slice_set insts me (followed (risen_inst (packet_of s message)) (order_of (Some message))))
+      → Plays count steps blocks (follow_sent (risen_inst (packet_of s message)) (heard n core from Main) (order_of (Some message))).net.links core.net.masters (slice_set insts me (followed (risen_inst (packet_of s message)) (order_of (Some message)))) disk
   ship-of s (messages.ShipTo b g new asker) first none may = ship-to s b g new asker first none
   ship-of s (messages.ShareTo b g new asker) first none may = share-to s b g new asker first none
   ship-of s _ first none may = absurd (let clash : false ≡ true = may in cc)
 
   ship-by : (o : Option Packet) → first_from core from me Main ≡ o → is_forced n ≡ true → is_shippable n (order_of (option_map (λ (packet : Packet). packet.message) o)) ≡ true
-      → Plays count steps blocks (follow_sent (risen_inst o) (heard n core from Main) (order_of (option_map (λ (packet : Packet). packet.message) o))).net.links core.net.masters (slice_set insts me (followed (risen_inst o) (order_of (option_map (λ (packet : Packet). packet.message) o))))
+      → Plays count steps blocks (follow_sent (risen_inst o) (heard n core from Main) (order_of (option_map (λ (packet : Packet). packet.message) o))).net.links core.net.masters (slice_set insts me (followed (risen_inst o) (order_of (option_map (λ (packet : Packet). packet.message) o)))) disk
   ship-by None first none may = absurd (let clash : false ≡ true = may in cc)
   ship-by (Some packet) first none may = ship-of packet.scn packet.message first none may
 
-  pub ship-plays : may_ship n core from ≡ true → Plays count steps blocks (ship_sent n core from).net.links core.net.masters (slice_set insts me (shipped n core from))
+  pub ship-plays : may_ship n core from ≡ true → Plays count steps blocks (ship_sent n core from).net.links core.net.masters (slice_set insts me (shipped n core from)) disk
   ship-plays may = let k = and_parts (is_forced n) (is_shippable n (first_order n core from)) may in ship-by (first_from core from me Main) refl k.0 k.1
 
   -- ---- ServeCopy
 
   copy-to : (s b g reader : ℕ) → first_from core from me Main ≡ packet_of s (messages.CopyTo b g reader) → is_forced n ≡ true
       → Plays count steps blocks (copy_sent_of (risen_inst (packet_of s (messages.CopyTo b g reader))) (heard n core from Main) (record { block = b; grant = g; reader = reader }) (option_map (λ (now : Current). now.image) (place_at n.cache b).current)).net.links core.net.masters
-      (slice_set insts me (risen_inst (packet_of s (messages.CopyTo b g reader))))
+      (slice_set insts me (risen_inst (packet_of s (messages.CopyTo b g reader)))) disk
   copy-to s b g reader first none = go (place_at n.cache b).current refl
     where
       message : Message
@@ -301,46 +310,48 @@ module _ (count steps blocks : ℕ) (core : Core) (insts : List Inst) (p : Plays
       alike : Alike n shown
       alike = alike-at n shown refl refl refl refl refl refl refl refl (λ are. are)
 
-      go : (c : Option Current) → (place_at n.cache b).current ≡ c → Plays count steps blocks (copy_sent_of shown (heard n core from Main) order (option_map (λ (now : Current). now.image) (place_at n.cache b).current)).net.links core.net.masters (slice_set insts me shown)
+      go : (c : Option Current) → (place_at n.cache b).current ≡ c → Plays count steps blocks (copy_sent_of shown (heard n core from Main) order (option_map (λ (now : Current). now.image) (place_at n.cache b).current)).net.links core.net.masters (slice_set insts me shown) disk
       go None empty =
-          subst (λ (c : Option Current). Plays count steps blocks (copy_sent_of shown (heard n core from Main) order (option_map (λ (now : Current). now.image) c)).net.links core.net.masters (slice_set insts me shown)) (sym empty)
-          (plays-answering count steps blocks core insts p n at from s b message (messages.Back (unfound.CopyTo b g reader)) (master_of core.net.masters b) shown first refl refl (p.named b)
-          (heard-sane count steps blocks core insts p n at from s Main message first) alike refl (λ c ne. refl)
+          subst (λ (c : Option Current). Plays count steps blocks (copy_sent_of shown (heard n core from Main) order (option_map (λ (now : Current). now.image) c)).net.links core.net.masters (slice_set insts me shown) disk) (sym empty)
+          (plays-answering count steps blocks core insts disk p n at from s b message (messages.Back (unfound.CopyTo b g reader)) (master_of core.net.masters b) shown first refl refl (p.named b)
+          (heard-sane count steps blocks core insts disk p n at from s Main message first) alike refl (λ c ne. refl)
           (λ low.
           let f = p.follows b low in (
             risen me s f.h,
-            copy-comes-back me from (master_of core.net.masters b) s g reader core.net.links f.h b f.entry _ f.shown (comes count steps blocks core insts p n at from s message first) (p.named b)
-                (ap (λ (q : Place). q.current) (own-place count steps blocks core insts p n at b low) ∙ empty),
+            copy-comes-back me from (master_of core.net.masters b) s g reader core.net.links f.h b f.entry _ f.shown (comes count steps blocks core insts disk p n at from s message first) (p.named b)
+                (ap (λ (q : Place). q.current) (own-place count steps blocks core insts disk p n at b low) ∙ empty),
             refl,
             (λ i apart. refl),
-            own-place count steps blocks core insts p n at b low,
+            own-place count steps blocks core insts disk p n at b low,
+            f.on_disk,
           )))
       go (Some now) held =
           let number : now.image.front.number ≡ b = (p.each me n at).numbers b now held in
-          subst (λ (c : Option Current). Plays count steps blocks (copy_sent_of shown (heard n core from Main) order (option_map (λ (now : Current). now.image) c)).net.links core.net.masters (slice_set insts me shown)) (sym held)
-          (plays-answering count steps blocks core insts p n at from s b message (messages.Copy now.image (max n.clock.scn s)) reader shown first refl (ap Some number)
-          (heard-sane count steps blocks core insts p n at from s Main message first) tt alike refl (λ c ne. refl)
+          subst (λ (c : Option Current). Plays count steps blocks (copy_sent_of shown (heard n core from Main) order (option_map (λ (now : Current). now.image) c)).net.links core.net.masters (slice_set insts me shown) disk) (sym held)
+          (plays-answering count steps blocks core insts disk p n at from s b message (messages.Copy now.image (max n.clock.scn s)) reader shown first refl (ap Some number)
+          (heard-sane count steps blocks core insts disk p n at from s Main message first) tt alike refl (λ c ne. refl)
           (λ low.
           let f = p.follows b low in
-          let clock : clock_then me s f.h ≡ max n.clock.scn s = ap (λ (c : ℕ). max c s) (had-clock count steps blocks core insts p n at b low) in (
+          let clock : clock_then me s f.h ≡ max n.clock.scn s = ap (λ (c : ℕ). max c s) (had-clock count steps blocks core insts disk p n at b low) in (
             risen me s f.h,
             subst (λ (c : ℕ). GoesOn me s core.net.links (answered me from reader (clock_then me s f.h) (messages.Copy now.image c) core.net.links) (risen me s f.h) b f.entry (view p.whole b).block) clock
-                (copy-is-served me from s g reader now core.net.links f.h b f.entry _ f.shown (comes count steps blocks core insts p n at from s message first)
-                (ap (λ (q : Place). q.current) (own-place count steps blocks core insts p n at b low) ∙ held) number (forced none b low)),
+                (copy-is-served me from s g reader now core.net.links f.h b f.entry _ f.shown (comes count steps blocks core insts disk p n at from s message first)
+                (ap (λ (q : Place). q.current) (own-place count steps blocks core insts disk p n at b low) ∙ held) number (forced none b low)),
             refl,
             (λ i apart. refl),
-            own-place count steps blocks core insts p n at b low,
+            own-place count steps blocks core insts disk p n at b low,
+            f.on_disk,
           )))
 
   copy-of : (s : ℕ) (message : Message) → first_from core from me Main ≡ packet_of s message → is_forced n ≡ true → is_some (copy_order_of (Some message)) ≡ true
-      → Plays count steps blocks (copy_sent_by (risen_inst (packet_of s message)) (heard n core from Main) (copy_order_of (Some message))).net.links core.net.masters (slice_set insts me (risen_inst (packet_of s message)))
+      → Plays count steps blocks (copy_sent_by (risen_inst (packet_of s message)) (heard n core from Main) (copy_order_of (Some message))).net.links core.net.masters (slice_set insts me (risen_inst (packet_of s message))) disk
   copy-of s (messages.CopyTo b g reader) first none may = copy-to s b g reader first none
   copy-of s _ first none may = absurd (let clash : false ≡ true = may in cc)
 
   copy-by : (o : Option Packet) → first_from core from me Main ≡ o → is_forced n ≡ true → is_some (copy_order_of (option_map (λ (packet : Packet). packet.message) o)) ≡ true
-      → Plays count steps blocks (copy_sent_by (risen_inst o) (heard n core from Main) (copy_order_of (option_map (λ (packet : Packet). packet.message) o))).net.links core.net.masters (slice_set insts me (risen_inst o))
+      → Plays count steps blocks (copy_sent_by (risen_inst o) (heard n core from Main) (copy_order_of (option_map (λ (packet : Packet). packet.message) o))).net.links core.net.masters (slice_set insts me (risen_inst o)) disk
   copy-by None first none may = absurd (let clash : false ≡ true = may in cc)
   copy-by (Some packet) first none may = copy-of packet.scn packet.message first none may
 
-  pub copy-plays : may_serve_copy n core from ≡ true → Plays count steps blocks (copy_sent n core from).net.links core.net.masters (slice_set insts me (hears n core from Main))
+  pub copy-plays : may_serve_copy n core from ≡ true → Plays count steps blocks (copy_sent n core from).net.links core.net.masters (slice_set insts me (hears n core from Main)) disk
   copy-plays may = let k = and_parts (is_some (first_copy_order n core from)) (is_forced n) may in copy-by (first_from core from me Main) refl k.1 k.0

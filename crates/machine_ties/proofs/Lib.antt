@@ -8,3 +8,8 @@ pub mod Moves
 pub mod Heard
 pub mod Images
 pub mod Pasts
+pub mod DiskImages
+pub mod Coming
+pub mod Lacking
+pub mod Acting
+pub mod Writing

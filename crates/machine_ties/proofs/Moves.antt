@@ -12,6 +12,7 @@ use Rattle.wire_net.specs.declared.message.Packet.{Packet}
 use Rattle.wire_net.specs.Links.{first_on, lane_for, place_of as link_place, sent, taken, waiting_on}
 use Rattle.resource_dir.specs.Directory.{entry_of}
 use Rattle.buffer_cache.specs.Cache.{place_at}
+use Rattle.rac_disk.specs.Content.{Content, block_at}
 use Rattle.inst_state.specs.declared.inst.Inst.{Inst}
 use Rattle.inst_state.specs.declared.inst.Mastering.{Mastering}
 use Rattle.block_protocol.specs.AllBlocks.{AllBlocks, view}
@@ -30,12 +31,12 @@ use Rattle.machine_ties.proofs.Holds.{Alike, holder-place, other-follows, plays-
 use Rattle.machine_ties.proofs.Led.{Led, led-does, led-goes, led-rises, risen_clock}
 use Rattle.machine_ties.specs.Sane.{AreSaneLinks}
 use Rattle.machine_ties.proofs.Links.{links-later, queue-later}
-use Rattle.machine_ties.specs.Plays.{IsFine, Plays, Serves, clock_of, newest}
+use Rattle.machine_ties.specs.Plays.{IsFine, IsOnDisk, Plays, Serves, clock_of, newest}
 use Rattle.machine_ties.proofs.Plays.{each-after, read-after, same-or-not}
 
 -- the clock of an instance that is there
-pub own-clock : (count steps blocks : ℕ) (links : List (List Packet)) (masters : Masters) (insts : List Inst) (p : Plays count steps blocks links masters insts) (me : ℕ) (n : Inst) → slice_get insts me ≡ Some n → p.whole.clock me ≡ n.clock.scn
-own-clock count steps blocks links masters insts p me n at = p.clocks me ∙ ap clock_of at
+pub own-clock : (count steps blocks : ℕ) (links : List (List Packet)) (masters : Masters) (insts : List Inst) (disk : Content) (p : Plays count steps blocks links masters insts disk) (me : ℕ) (n : Inst) → slice_get insts me ≡ Some n → p.whole.clock me ≡ n.clock.scn
+own-clock count steps blocks links masters insts disk p me n at = p.clocks me ∙ ap clock_of at
 
 -- a number is below another one or isn't
 pub low-or-not : (a b : ℕ) → (a < b) ⊎ (b ≤ a)
@@ -52,7 +53,7 @@ by_no : (b : Bool) → (b ≡ true → ⊥) → b ≡ false
 by_no true isnt = absurd (isnt refl)
 by_no false isnt = refl
 
-module _ (count steps blocks : ℕ) (links : List (List Packet)) (masters : Masters) (insts : List Inst) (p : Plays count steps blocks links masters insts)
+module _ (count steps blocks : ℕ) (links : List (List Packet)) (masters : Masters) (insts : List Inst) (disk : Content) (p : Plays count steps blocks links masters insts disk)
     (me : ℕ) (n m : Inst) (at : slice_get insts me ≡ Some n) (alike : Alike n m) where
   abbrev later : List Inst
   later = slice_set insts me m
@@ -62,10 +63,10 @@ module _ (count steps blocks : ℕ) (links : List (List Packet)) (masters : Mast
 
   -- an instance has taken a message about a block
   pub plays-goes : (b : BlockNo) (low : b < blocks) (scn : ℕ) (links_now : List (List Packet)) (h : Holdings) → (it : GoesOn me scn links links_now h b (p.follows b low).entry (view p.whole b).block)
-      → h.records ≡ (p.follows b low).h.records → ((i : ℕ) → i ≢ me → h.places i ≡ (p.follows b low).h.places i) → h.places me ≡ place_at m.cache b
-      → max n.clock.scn scn ≡ m.clock.scn → ((c : ℕ) → c ≢ b → place_at m.cache c ≡ place_at n.cache c) → AreSaneLinks (newest p.whole) links_now → Plays count steps blocks links_now masters later
-  plays-goes b low scn links_now h it records others own clock places sane =
-      plays-on count steps blocks links masters insts p me n m at alike b low (p.follows b low) (risen_clock p.whole me scn) links_now it.after h (record {
+      → h.records ≡ (p.follows b low).h.records → ((i : ℕ) → i ≢ me → h.places i ≡ (p.follows b low).h.places i) → h.places me ≡ place_at m.cache b → IsOnDisk disk b h.disk
+      → max n.clock.scn scn ≡ m.clock.scn → ((c : ℕ) → c ≢ b → place_at m.cache c ≡ place_at n.cache c) → AreSaneLinks (newest p.whole) links_now → Plays count steps blocks links_now masters later disk
+  plays-goes b low scn links_now h it records others own on_disk clock places sane =
+      plays-on count steps blocks links masters insts disk p me n m at alike b low (p.follows b low) (risen_clock p.whole me scn) links_now disk it.after h (record {
         led = led-goes p.whole me scn b it.after p.phase live p.awake it.run;
         shown = it.shown;
         bags = it.others;
@@ -73,16 +74,18 @@ module _ (count steps blocks : ℕ) (links : List (List Packet)) (masters : Mast
         records = it.shown.around.records ∙ records ∙ sym (p.follows b low).shown.around.records;
         others = others;
         own = own;
-      })
+        on_disk = on_disk;
+      }) (λ c ne. refl)
       (λ i apart. put-other p.whole.clock me (max (p.whole.clock me) scn) i (λ e. apart (sym e)))
-      (put-same p.whole.clock me (max (p.whole.clock me) scn) ∙ ap (λ (c : ℕ). max c scn) (own-clock count steps blocks links masters insts p me n at) ∙ clock) places sane
+      (put-same p.whole.clock me (max (p.whole.clock me) scn) ∙ ap (λ (c : ℕ). max c scn) (own-clock count steps blocks links masters insts disk p me n at) ∙ clock) places sane
 
   -- an instance has acted of its own accord
-  pub plays-does : (b : BlockNo) (low : b < blocks) (links_now : List (List Packet)) (h : Holdings) → (it : Does me links links_now h b (p.follows b low).entry (view p.whole b).block)
-      → h.records ≡ (p.follows b low).h.records → ((i : ℕ) → i ≢ me → h.places i ≡ (p.follows b low).h.places i) → h.places me ≡ place_at m.cache b
-      → n.clock.scn ≡ m.clock.scn → ((c : ℕ) → c ≢ b → place_at m.cache c ≡ place_at n.cache c) → AreSaneLinks (newest p.whole) links_now → Plays count steps blocks links_now masters later
-  plays-does b low links_now h it records others own clock places sane =
-      plays-on count steps blocks links masters insts p me n m at alike b low (p.follows b low) p.whole.clock links_now it.after h (record {
+  pub plays-does : (b : BlockNo) (low : b < blocks) (links_now : List (List Packet)) (disk_now : Content) (h : Holdings) → (it : Does me links links_now h b (p.follows b low).entry (view p.whole b).block)
+      → h.records ≡ (p.follows b low).h.records → ((i : ℕ) → i ≢ me → h.places i ≡ (p.follows b low).h.places i) → h.places me ≡ place_at m.cache b → IsOnDisk disk_now b h.disk
+      → ((c : ℕ) → c ≢ b → block_at disk_now c ≡ block_at disk c) → n.clock.scn ≡ m.clock.scn → ((c : ℕ) → c ≢ b → place_at m.cache c ≡ place_at n.cache c) → AreSaneLinks (newest p.whole) links_now
+      → Plays count steps blocks links_now masters later disk_now
+  plays-does b low links_now disk_now h it records others own on_disk disks clock places sane =
+      plays-on count steps blocks links masters insts disk p me n m at alike b low (p.follows b low) p.whole.clock links_now disk_now it.after h (record {
         led = led-does p.whole me b it.after p.phase live p.awake it.run;
         shown = it.shown;
         bags = it.others;
@@ -90,12 +93,14 @@ module _ (count steps blocks : ℕ) (links : List (List Packet)) (masters : Mast
         records = it.shown.around.records ∙ records ∙ sym (p.follows b low).shown.around.records;
         others = others;
         own = own;
-      }) (λ i apart. refl) (own-clock count steps blocks links masters insts p me n at ∙ clock) places sane
+        on_disk = on_disk;
+      }) disks (λ i apart. refl) (own-clock count steps blocks links masters insts disk p me n at ∙ clock) places sane
 
   -- its clock has risen, and messages that are about none of the blocks were taken or sent
-  pub plays-rises : (scn : ℕ) (links_now : List (List Packet)) → max n.clock.scn scn ≡ m.clock.scn → ((c : ℕ) → c < blocks → place_at m.cache c ≡ place_at n.cache c)
-      → AreLinks links_now → ((c : ℕ) → c < blocks → Same (bag_of c links) (bag_of c links_now)) → AreSaneLinks (newest p.whole) links_now → Plays count steps blocks links_now masters later
-  plays-rises scn links_now clock places sized bags sane =
+  pub plays-rises : (scn : ℕ) (links_now : List (List Packet)) (disk_now : Content) → max n.clock.scn scn ≡ m.clock.scn → ((c : ℕ) → c < blocks → place_at m.cache c ≡ place_at n.cache c)
+      → ((c : ℕ) → c < blocks → block_at disk_now c ≡ block_at disk c)
+      → AreLinks links_now → ((c : ℕ) → c < blocks → Same (bag_of c links) (bag_of c links_now)) → AreSaneLinks (newest p.whole) links_now → Plays count steps blocks links_now masters later disk_now
+  plays-rises scn links_now disk_now clock places disks sized bags sane =
       let led = led-rises p.whole me scn blocks p.phase p.awake in
       let made : (c : ℕ) → newest led.last c ≡ newest p.whole c = λ c. ap (λ (s : Block). length s.records) (raised-at led c) in
       record {
@@ -111,12 +116,13 @@ module _ (count steps blocks : ℕ) (links : List (List Packet)) (masters : Mast
         named = p.named;
         clocks = read-after insts me n m at clock_of led.last.clock
             (λ i apart. ap (λ (c : ℕ → Scn). c i) led.clocks ∙ put-other p.whole.clock me (max (p.whole.clock me) scn) i (λ e. apart (sym e)) ∙ p.clocks i)
-            (ap (λ (c : ℕ → Scn). c me) led.clocks ∙ put-same p.whole.clock me (max (p.whole.clock me) scn) ∙ ap (λ (c : ℕ). max c scn) (own-clock count steps blocks links masters insts p me n at) ∙ clock);
+            (ap (λ (c : ℕ → Scn). c me) led.clocks ∙ put-same p.whole.clock me (max (p.whole.clock me) scn) ∙ ap (λ (c : ℕ). max c scn) (own-clock count steps blocks links masters insts disk p me n at) ∙ clock);
         sane = links-later (newest p.whole) (newest led.last) (λ c. let same = made c in omega (arith, same)) links_now sane;
+        made = λ c. let same = made c in let few = p.made c in omega (arith, same, few);
         entries = λ j x d what is_there is_it. each-after insts me n m at (λ i k. (c : BlockNo) (entry : Entry) → entry_of k.mastering.directory c ≡ Some entry → IsFine (newest led.last) steps c entry)
             (λ i k is c entry e. fine-still led.last c entry made (p.entries i k c entry is e))
             (λ c entry e. fine-still led.last c entry made (p.entries me n c entry at (sym (ap (λ (g : Mastering). entry_of g.directory c) alike.mastering) ∙ e))) j x is_there d what is_it;
-        follows = λ c low. other-follows count steps blocks links masters insts p me n m at alike blocks c (raised me scn (view p.whole blocks).block) (risen_clock p.whole me scn) links_now led sized (bags c low) (places c low) (λ e. omega (arith, low, e)) (p.follows c low);
+        follows = λ c low. other-follows count steps blocks links masters insts disk p me n m at alike blocks c (raised me scn (view p.whole blocks).block) (risen_clock p.whole me scn) links_now disk_now led sized (bags c low) (places c low) (disks c low) (λ e. omega (arith, low, e)) (p.follows c low);
       }
     where
       raised-at : (led : Led p.whole (risen_clock p.whole me scn) blocks (raised me scn (view p.whole blocks).block)) (c : ℕ) → (view led.last c).block ≡ record (view p.whole c).block { clock = risen_clock p.whole me scn }
@@ -136,24 +142,24 @@ module _ (count steps blocks : ℕ) (links : List (List Packet)) (masters : Mast
   -- an instance has taken a message about a block, which is one of these or another one
   pub plays-takes : (b : BlockNo) (scn : ℕ) (links_now : List (List Packet)) → AreLinks links_now → ((c : ℕ) → c ≢ b → Same (bag_of c links) (bag_of c links_now)) → AreSaneLinks (newest p.whole) links_now
       → max n.clock.scn scn ≡ m.clock.scn → ((c : ℕ) → c ≢ b → place_at m.cache c ≡ place_at n.cache c)
-      → ((low : b < blocks) → (h : Holdings) × GoesOn me scn links links_now h b (p.follows b low).entry (view p.whole b).block × (h.records ≡ (p.follows b low).h.records) × ((i : ℕ) → i ≢ me → h.places i ≡ (p.follows b low).h.places i) × (h.places me ≡ place_at m.cache b))
-      → Plays count steps blocks links_now masters later
+      → ((low : b < blocks) → (h : Holdings) × GoesOn me scn links links_now h b (p.follows b low).entry (view p.whole b).block × (h.records ≡ (p.follows b low).h.records) × ((i : ℕ) → i ≢ me → h.places i ≡ (p.follows b low).h.places i) × (h.places me ≡ place_at m.cache b) × IsOnDisk disk b h.disk)
+      → Plays count steps blocks links_now masters later disk
   plays-takes b scn links_now sized bags sane clock places law = go (low-or-not b blocks)
     where
-      go : (b < blocks) ⊎ (blocks ≤ b) → Plays count steps blocks links_now masters later
-      go (inl low) = let k = law low in plays-goes b low scn links_now k.0 k.1 k.2 k.3 k.4 clock places sane
-      go (inr high) = plays-rises scn links_now clock (λ c low. places c (λ e. omega (arith, low, e, high))) sized (λ c low. bags c (λ e. omega (arith, low, e, high))) sane
+      go : (b < blocks) ⊎ (blocks ≤ b) → Plays count steps blocks links_now masters later disk
+      go (inl low) = let k = law low in plays-goes b low scn links_now k.0 k.1 k.2 k.3 k.4 k.5 clock places sane
+      go (inr high) = plays-rises scn links_now disk clock (λ c low. places c (λ e. omega (arith, low, e, high))) (λ c low. refl) sized (λ c low. bags c (λ e. omega (arith, low, e, high))) sane
 
   -- it has acted of its own accord on a block
-  pub plays-acts : (b : BlockNo) (links_now : List (List Packet)) → AreLinks links_now → ((c : ℕ) → c ≢ b → Same (bag_of c links) (bag_of c links_now)) → AreSaneLinks (newest p.whole) links_now
-      → n.clock.scn ≡ m.clock.scn → ((c : ℕ) → c ≢ b → place_at m.cache c ≡ place_at n.cache c)
-      → ((low : b < blocks) → (h : Holdings) × Does me links links_now h b (p.follows b low).entry (view p.whole b).block × (h.records ≡ (p.follows b low).h.records) × ((i : ℕ) → i ≢ me → h.places i ≡ (p.follows b low).h.places i) × (h.places me ≡ place_at m.cache b))
-      → Plays count steps blocks links_now masters later
-  plays-acts b links_now sized bags sane clock places law = go (low-or-not b blocks)
+  pub plays-acts : (b : BlockNo) (links_now : List (List Packet)) (disk_now : Content) → AreLinks links_now → ((c : ℕ) → c ≢ b → Same (bag_of c links) (bag_of c links_now)) → AreSaneLinks (newest p.whole) links_now
+      → ((c : ℕ) → c ≢ b → block_at disk_now c ≡ block_at disk c) → n.clock.scn ≡ m.clock.scn → ((c : ℕ) → c ≢ b → place_at m.cache c ≡ place_at n.cache c)
+      → ((low : b < blocks) → (h : Holdings) × Does me links links_now h b (p.follows b low).entry (view p.whole b).block × (h.records ≡ (p.follows b low).h.records) × ((i : ℕ) → i ≢ me → h.places i ≡ (p.follows b low).h.places i) × (h.places me ≡ place_at m.cache b) × IsOnDisk disk_now b h.disk)
+      → Plays count steps blocks links_now masters later disk_now
+  plays-acts b links_now disk_now sized bags sane disks clock places law = go (low-or-not b blocks)
     where
-      go : (b < blocks) ⊎ (blocks ≤ b) → Plays count steps blocks links_now masters later
-      go (inl low) = let k = law low in plays-does b low links_now k.0 k.1 k.2 k.3 k.4 clock places sane
-      go (inr high) = plays-rises n.clock.scn links_now (max-same n.clock.scn ∙ clock) (λ c low. places c (λ e. omega (arith, low, e, high))) sized (λ c low. bags c (λ e. omega (arith, low, e, high))) sane
+      go : (b < blocks) ⊎ (blocks ≤ b) → Plays count steps blocks links_now masters later disk_now
+      go (inl low) = let k = law low in plays-does b low links_now disk_now k.0 k.1 k.2 k.3 k.4 k.5 disks clock places sane
+      go (inr high) = plays-rises n.clock.scn links_now disk_now (max-same n.clock.scn ∙ clock) (λ c low. places c (λ e. omega (arith, low, e, high))) (λ c low. disks c (λ e. omega (arith, low, e, high))) sized (λ c low. bags c (λ e. omega (arith, low, e, high))) sane
 
 -- links without the first packet of one, and with one packet more
 

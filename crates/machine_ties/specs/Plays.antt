@@ -1,6 +1,8 @@
 -- The machine plays the protocol of each block.
-use Rattle.std.specs.Prelude.{◌≡◌, ℕ, ◌+◌, ◌*◌, ◌<◌, ◌≤◌, List, [], length, Option, None, Some, slice_get, true, false}
+use Rattle.std.specs.Prelude.{◌≡◌, ℕ, ◌+◌, ◌-◌, ◌*◌, ◌^◌, ◌<◌, ◌≤◌, List, [], length, Option, None, Some, slice_get, true, false}
 use Rattle.base_types.specs.declared.names.BlockNo.{BlockNo}
+use Rattle.block_image.specs.Block.{BlockContent, block_bytes}
+use Rattle.rac_disk.specs.Content.{Content, block_at}
 use Rattle.wire_net.specs.declared.entry.Entry.{Entry}
 use Rattle.wire_net.specs.declared.masters.Masters.{Masters}
 use Rattle.wire_net.specs.declared.message.Packet.{Packet}
@@ -61,12 +63,19 @@ pub record Serves (count blocks i : ℕ) (n : Inst) : Type 0 where
 abbrev pub newest : AllBlocks → ℕ → ℕ
 newest whole b = length (whole.blocks b).block.records
 
--- A block is shown by the links, by what the instances have of it, and by its entry at its master.
-pub record Follows (links : List (List Packet)) (insts : List Inst) (whole : AllBlocks) (b : BlockNo) : Type 0 where
+-- The disk has an image of a block at a version.
+pub record IsOnDisk (disk : Content) (b : BlockNo) (version : ℕ) : Type 0 where
+  pub image : BlockContent
+  pub bytes : block_at disk b ≡ block_bytes image
+  pub numbered : image.front.version ≡ version
+
+-- A block is shown by the links, by what the instances and the disk have of it, and by its entry at its master.
+pub record Follows (links : List (List Packet)) (insts : List Inst) (disk : Content) (whole : AllBlocks) (b : BlockNo) : Type 0 where
   pub entry : Entry
   pub h : Holdings
   pub shown : IsShown links h b entry (view whole b).block
   pub places : (i : ℕ) → h.places i ≡ place_in insts b i
+  pub on_disk : IsOnDisk disk b h.disk
   pub master : ℕ
   pub seat : Inst
   pub there : slice_get insts master ≡ Some seat
@@ -81,8 +90,12 @@ pub record IsFine (made : ℕ → ℕ) (steps : ℕ) (b : BlockNo) (entry : Entr
   pub waits : AreSaneWaiting made entry.queue
   pub drawn : entry.next_grant ≤ 1 + 3 * steps
 
--- Instances, links and the table of masters play the protocol of so many blocks, after so many steps.
-pub record Plays (count steps blocks : ℕ) (links : List (List Packet)) (masters : Masters) (insts : List Inst) : Type 0 where
+-- So few steps make no version and draw no grant that comes to the end of its numbers.
+abbrev pub AreFew : ℕ → Type 0
+AreFew steps = 1 + 3 * steps < 2 ^ 64 - 1
+
+-- Instances, links, the table of masters and the disk play the protocol of so many blocks, after so many steps.
+pub record Plays (count steps blocks : ℕ) (links : List (List Packet)) (masters : Masters) (insts : List Inst) (disk : Content) : Type 0 where
   pub whole : AllBlocks
   pub first_master : BlockNo → ℕ
   pub run : RunOfAll (first_of_all count first_master) whole
@@ -95,5 +108,6 @@ pub record Plays (count steps blocks : ℕ) (links : List (List Packet)) (master
   pub named : (b : ℕ) → master_of masters b < 8
   pub clocks : (i : ℕ) → whole.clock i ≡ clock_in insts i
   pub sane : AreSaneLinks (newest whole) links
+  pub made : (b : BlockNo) → newest whole b ≤ steps
   pub entries : (i : ℕ) (n : Inst) (b : BlockNo) (entry : Entry) → slice_get insts i ≡ Some n → entry_of n.mastering.directory b ≡ Some entry → IsFine (newest whole) steps b entry
-  pub follows : (b : BlockNo) → b < blocks → Follows links insts whole b
+  pub follows : (b : BlockNo) → b < blocks → Follows links insts disk whole b

@@ -1,25 +1,39 @@
 -- Steps of the machine that play the protocol on.
-use Rattle.std.specs.Prelude.{◌≡◌, ◌≤◌, ◌+◌, ℕ, List, Some, Bool, slice_get, slice_set, true}
+use Rattle.std.specs.Prelude.{◌≡◌, ◌≤◌, ◌+◌, ℕ, List, Option, Some, Bool, slice_get, slice_set, true}
 use Rattle.wire_net.specs.declared.entry.Entry.{Entry}
 use Rattle.wire_net.specs.declared.message.Lane.TheVariants.{Main}
 use Rattle.wire_net.specs.declared.message.Message.{Message}
+use Rattle.wire_net.specs.declared.message.Message.TheVariants as messages
 use Rattle.resource_dir.specs.Takes.{takes}
+use Rattle.rac_disk.specs.Content.{Content}
+use Rattle.rac_disk.specs.State.{State}
+use Rattle.disk_calls.specs.declared.images.ReadData.TheVariants as read
+use Rattle.disk_steps.specs.declared.installs.Installed.{Installed}
+use Rattle.disk_steps.specs.declared.installs.Installed.TheVariants.{Read}
+use Rattle.disk_calls.specs.Calls.{WritesBlockAs}
+use Rattle.disk_calls.specs.declared.writes.Written.TheVariants.{Done}
+use Rattle.disk_steps.specs.Write.{block_written, bytes_to_write, may_write_block, write_told}
+use Rattle.disk_steps.specs.Install.{InstallsAs, image_installed, install_told, may_install}
 use Rattle.inst_state.specs.declared.inst.Inst.{Inst}
 use Rattle.inst_state.specs.declared.shared.Core.{Core}
+use Rattle.image_steps.specs.Ask.{ask_sent, asked, may_ask}
+use Rattle.image_steps.specs.AskWrite.{may_ask_write, write_asked, write_plea_sent}
 use Rattle.image_steps.specs.DropPast.{may_drop_past, past_dropped, past_sent}
-use Rattle.image_steps.specs.Hear.{hears}
+use Rattle.image_steps.specs.Evict.{evict_sent, evicted, may_evict}
+use Rattle.image_steps.specs.Hear.{first_message, heard, hears}
 use Rattle.image_steps.specs.Invalidate.{invalidate_sent, invalidated, may_invalidate}
 use Rattle.image_steps.specs.ServeCopy.{copy_sent, may_serve_copy}
 use Rattle.image_steps.specs.Ship.{may_ship, ship_sent, shipped}
-use Rattle.machine_ties.specs.Plays.{Plays}
+use Rattle.image_steps.specs.TakeCopy.{copy_taken, may_take_copy}
+use Rattle.machine_ties.specs.Plays.{AreFew, Plays}
 use Rattle.machine_ties.specs.Sane.{AreSane, AreSaneWaiting, IsSane}
 
 -- Where instances and links play the protocol, they do so after a step of one of them with what comes from another one, or with a
 -- block: the step is possible, and leads to this part of the instance and to what is shared then.
 abbrev pub PlayOn : (Inst → Core → ℕ → Bool) → (Inst → Core → ℕ → Inst) → (Inst → Core → ℕ → Core) → Type 0
-PlayOn may part shared = (count steps blocks : ℕ) (core : Core) (insts : List Inst) (n : Inst) (number : ℕ) → Plays count steps blocks core.net.links core.net.masters insts
+PlayOn may part shared = (count steps blocks : ℕ) (core : Core) (insts : List Inst) (disk : Content) (n : Inst) (number : ℕ) → Plays count steps blocks core.net.links core.net.masters insts disk
     → slice_get insts n.plan.me ≡ Some n → may n core number ≡ true
-    → Plays count steps blocks (shared n core number).net.links core.net.masters (slice_set insts n.plan.me (part n core number))
+    → Plays count steps blocks (shared n core number).net.links core.net.masters (slice_set insts n.plan.me (part n core number)) disk
 
 -- an Invalidate is obeyed
 abbrev pub InvalidatesPlay : Type 0
@@ -36,6 +50,42 @@ CopiesPlay = PlayOn may_serve_copy (λ n core from. hears n core from Main) copy
 -- a past image goes, or a plea to write is noted, met or sent back
 abbrev pub PastsPlay : Type 0
 PastsPlay = PlayOn may_drop_past past_dropped past_sent
+
+-- a copy that comes is kept, and goes to the lines that wait for it
+abbrev pub TakenCopiesPlay : Type 0
+TakenCopiesPlay = PlayOn (λ n core from. may_take_copy n core from Main) (λ n core from. copy_taken n core from Main) (λ n core from. heard n core from Main)
+
+-- a block is asked for that a line lacks
+abbrev pub AsksPlay : Type 0
+AsksPlay = PlayOn (λ n core block. may_ask n block) (λ n core block. asked n block) ask_sent
+
+-- a clean image leaves its frame
+abbrev pub EvictsPlay : Type 0
+EvictsPlay = PlayOn (λ n core block. may_evict n block) (λ n core block. evicted n block) evict_sent
+
+-- a write is asked for that lets a past image go
+abbrev pub PleasPlay : Type 0
+PleasPlay = PlayOn (λ n core block. may_ask_write n block) (λ n core block. write_asked n block) write_plea_sent
+
+-- The same of a step that calls the disk, which tells what it holds: its calls went well, and left this.
+abbrev pub PlayOnDisk : {How : Type 0} → (Inst → Core → ℕ → Bool) → (Inst → Core → ℕ → How → Type 0) → (Inst → Core → ℕ → How → State → State → Type 0) → (Inst → Core → ℕ → How → Inst) → (Inst → Core → ℕ → How → Core) → Type 0
+PlayOnDisk {How} may Well Left part shared = (count steps blocks : ℕ) (core : Core) (insts : List Inst) (disk : Content) (n : Inst) (number : ℕ) (how : How) (old new : State)
+    → Plays count steps blocks core.net.links core.net.masters insts disk → AreFew steps → slice_get insts n.plan.me ≡ Some n → may n core number ≡ true → old.told ≡ Some disk → Well n core number how → Left n core number how old new
+    → (later : Content) × (new.told ≡ Some later) × Plays count steps blocks (shared n core number how).net.links core.net.masters (slice_set insts n.plan.me (part n core number how)) later
+
+-- Where the disk's image is granted, it was read; else nothing is. A read that fails ends its instance.
+abbrev pub HasRead : Option Message → Installed → Type 0
+HasRead (Some (messages.Grant block grant mode true)) (Read (read.Image image)) = Unit {0}
+HasRead (Some (messages.Grant block grant mode true)) how = ⊥
+HasRead message how = Unit {0}
+
+-- an image is installed that was shipped, that the disk has, or that is held
+abbrev pub InstallsPlay : Type 0
+InstallsPlay = PlayOnDisk may_install (λ n core from how. HasRead (first_message n core from Main) how) (λ n core from how old new. InstallsAs (first_message n core from Main) how old new) image_installed install_told
+
+-- a dirty block is written, and its master hears of it where it is to
+abbrev pub WritesPlay : Type 0
+WritesPlay = PlayOnDisk may_write_block (λ n core block how. how ≡ Done) (λ n core block how old new. WritesBlockAs block (bytes_to_write n block) how old new) (λ n core block how. block_written n block how) write_told
 
 -- What a master sends is sane where the message is and what waits at the entry; so is what waits then.
 abbrev pub MastersAreSane : Type 0
