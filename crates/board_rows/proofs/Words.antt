@@ -7,5 +7,5 @@ pub use Rattle.board_rows.specs.Board.{Record, DeedAt, stands, of_xid, Over, sta
 pub use Rattle.board_rows.specs.Rows.{on, on_row, deeds_in, shown, committed_at, is_up_to, seen_at, FreeUnder, IsFree, commit_of, logged, IsMade, Ordered, IsOver, NewestIsFree, TableStands}
 pub use Rattle.board_rows.specs.Numbers.{wrap_in, has_end, recorded_in, IsNumbered, IsWithin, Numbers}
 pub use Rattle.board_rows.specs.Events.{Scan, put, unread, anew, read_on, Board, Event, Crash, Fault, after, nothing, Leads, IsLateHere, IsLate, IsNote, MayOpen, MayStart, MayRead, MayChange, MayTakeBack, MayRoll, MayEnd, MaySettle, MayAnswer, MayAck, MayUp, MayJoin, Finds, entry_of, told, recorded, is_own, value_there, Loss, entry_of_loss, MayLose, is_kept, MayLook, AreNear, LosesNewest, May, KeepsSegments}
-pub use Rattle.board_rows.specs.Sound.{RowsAreLate, RowsStand, AreRead, IsRead, ScanIsSeen, Answers, Clocks, Sound, Follows, MayFollow, RecordIsIn, Sessions, EndsBy, CanCommit, IsBelow, Txns, Segments, Starts, IsProper, TxnAgrees, RecordAgrees}
+pub use Rattle.board_rows.specs.Sound.{RowsAreLate, RowsStand, AreRead, IsRead, ScanIsSeen, Answers, Clocks, Sound, Follows, MayFollow, RecordIsIn, Sessions, EndsBy, CanCommit, Txns, Segments, Starts, IsProper, TxnAgrees, RecordAgrees}
 pub use Rattle.board_rows.specs.Headers.{MayTell, ended}

@@ -14,16 +14,11 @@ pub record Clocks (records : List Record) (clock known durable : ℕ → ℕ) : 
   pub drawn : AllByRecursion (λ r. scn_of r ≤ clock (thread_of r)) records
   pub rising : Rising records
 
--- an SCN is below that of the commit, where there is one
-abbrev pub IsBelow : ℕ → Stage → Type 0
-IsBelow scn (Over (Some commit_scn)) = scn < commit_scn
-IsBelow scn _ = Unit {0}
-
 -- the records of a committed transaction are below its commit
 abbrev pub EndsBy : Stage → Record → Type 0
 EndsBy st (Commits scn xid) = st ≡ Over (Some scn)
 EndsBy st (RollsBack inst scn xid) = Unit {0}
-EndsBy st r = IsBelow (scn_of r) st
+EndsBy st r = (commit_scn : ℕ) → st ≡ Over (Some commit_scn) → scn_of r < commit_scn
 
 -- a change or lock may be a transaction's first record, and no record follows its end
 abbrev pub MayFollow : Record → Stage → Type 0
