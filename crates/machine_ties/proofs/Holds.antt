@@ -1,6 +1,6 @@
 -- An instance acts on its image of one block: the others play on.
 use Rattle.std.proofs.Common.{◌≡◌, ◌≢◌, ◌∙◌, ℕ, ◌<◌, ◌≤◌, List, length, refl, sym, ap, subst, arith, ◌⊎◌, inl, inr}
-use Rattle.std.specs.Prelude.{is_some, Option, Some, slice_get, slice_index_or, slice_set, true, Bool, ◌%◌}
+use Rattle.std.specs.Prelude.{is_some, Option, None, Some, slice_get, slice_index_or, slice_set, true, Bool, ◌%◌}
 use Rattle.std.specs.List.{AllByRecursion}
 use Rattle.base_types.specs.declared.names.BlockNo.{BlockNo}
 use Rattle.wire_net.specs.declared.entry.Entry.{Entry}
@@ -8,6 +8,7 @@ use Rattle.wire_net.specs.declared.masters.Masters.{Masters}
 use Rattle.wire_net.specs.declared.message.Packet.{Packet}
 use Rattle.resource_dir.specs.Directory.{bucket_of, entry_of}
 use Rattle.buffer_cache.specs.Cache.{place_at}
+use Rattle.inst_state.specs.declared.inst.BucketsSent.{BucketsSent}
 use Rattle.inst_state.specs.declared.inst.Inst.{Inst}
 use Rattle.inst_state.specs.declared.inst.Leading.{Leading}
 use Rattle.inst_state.specs.declared.inst.Mastering.{Mastering}
@@ -45,18 +46,50 @@ pub record Alike (n m : Inst) : Type 0 where
   pub cached : length m.cache.places ≡ length n.cache.places
   pub numbers : AreOfBlocks n.cache → AreOfBlocks m.cache
 
-pub serves-still : (count blocks i : ℕ) (n m : Inst) → Alike n m → Serves count blocks i n → Serves count blocks i m
-serves-still count blocks i n m a s = record {
+-- The same where it masters one block in another way, and the others as before.
+pub record Near (b : ℕ) (n m : Inst) : Type 0 where
+  pub plan : m.plan ≡ n.plan
+  pub life : m.life ≡ n.life
+  pub paused : m.paused ≡ n.paused
+  pub leading : m.leading ≡ n.leading
+  pub newest : m.newest ≡ n.newest
+  pub thread : m.thread ≡ n.thread
+  pub cached : length m.cache.places ≡ length n.cache.places
+  pub numbers : AreOfBlocks n.cache → AreOfBlocks m.cache
+  pub sent : m.mastering.sent ≡ n.mastering.sent
+  pub sized : IsSized n.mastering.directory → IsSized m.mastering.directory
+  pub masters : (c : ℕ) → is_master m c ≡ true → is_master n c ≡ true
+  pub entries : (c : ℕ) → c ≢ b → entry_of m.mastering.directory c ≡ entry_of n.mastering.directory c
+
+pub alike-near : (b : ℕ) (n m : Inst) → Alike n m → Near b n m
+alike-near b n m a = record {
+  plan = a.plan;
+  life = a.life;
+  paused = a.paused;
+  leading = a.leading;
+  newest = a.newest;
+  thread = a.thread;
+  cached = a.cached;
+  numbers = a.numbers;
+  sent = ap (λ (g : Mastering). g.sent) a.mastering;
+  sized = λ is. subst (λ (g : Mastering). IsSized g.directory) (sym a.mastering) is;
+  masters = λ c is. subst (λ (g : Mastering). is_some (bucket_of g.directory (c % 16)) ≡ true) a.mastering is;
+  entries = λ c ne. ap (λ (g : Mastering). entry_of g.directory c) a.mastering;
+}
+
+pub serves-still : (count blocks i b : ℕ) (n m : Inst) → Near b n m → Serves count blocks i n → Serves count blocks i m
+serves-still count blocks i b n m a s = record {
   cached = a.cached ∙ s.cached;
   numbers = a.numbers s.numbers;
-  reached = λ b. subst (λ (t : ThreadState). newest_at m b ≤ end_of t) (sym a.thread) (subst (λ (x : ℕ). x ≤ end_of n.thread) (sym (ap (λ (places : List ℕ). slice_index_or places b 0) a.newest)) (s.reached b));
+  reached = λ c. subst (λ (t : ThreadState). newest_at m c ≤ end_of t) (sym a.thread) (subst (λ (x : ℕ). x ≤ end_of n.thread) (sym (ap (λ (places : List ℕ). slice_index_or places c 0) a.newest)) (s.reached c));
   low = s.low;
   me = ap (λ (p : Plan). p.me) a.plan ∙ s.me;
   up = a.life ∙ s.up;
   paused = a.paused ∙ s.paused;
   leads = ap (λ (l : Leading). l.leads) a.leading ∙ s.leads;
   adopted = ap (λ (l : Leading). l.adopted) a.leading ∙ s.adopted;
-  sized = subst (λ (g : Mastering). IsSized g.directory) (sym a.mastering) s.sized;
+  sized = a.sized s.sized;
+  passes = λ bucket to is. s.passes bucket to (subst (λ (g : BucketsSent). slice_index_or g.by_bucket bucket None ≡ Some to) a.sent is);
 }
 
 -- the steps of a holder leave the entry where it is
@@ -120,34 +153,63 @@ on-disk-still : (disk later : Content) (b version : ℕ) → block_at later b �
 on-disk-still disk later b version same is = record { image = is.image; bytes = same ∙ is.bytes; numbered = is.numbered }
 
 module _ (count steps blocks : ℕ) (links : List (List Packet)) (masters : Masters) (insts : List Inst) (disk : Content) (p : Plays count steps blocks links masters insts disk)
-    (me : ℕ) (n m : Inst) (at : slice_get insts me ≡ Some n) (alike : Alike n m) where
+    (me : ℕ) (n m : Inst) (at : slice_get insts me ≡ Some n) (b : BlockNo) (near : Near b n m) where
   abbrev later : List Inst
   later = slice_set insts me m
 
-  -- the instance at a place masters what it mastered
-  seat-after : (i : ℕ) (k : Inst) → slice_get insts i ≡ Some k → (l : Inst) × (slice_get later i ≡ Some l) × (l.mastering ≡ k.mastering)
+  -- the instance at a place, with the entries that it has of another block
+  seat-after : (i : ℕ) (k : Inst) → slice_get insts i ≡ Some k → (l : Inst) × (slice_get later i ≡ Some l) × ((c : ℕ) → c ≢ b → entry_of l.mastering.directory c ≡ entry_of k.mastering.directory c)
   seat-after i k is = go (same-or-not i me)
     where
-      go : (i ≡ me) ⊎ (i ≢ me) → (l : Inst) × (slice_get later i ≡ Some l) × (l.mastering ≡ k.mastering)
+      go : (i ≡ me) ⊎ (i ≢ me) → (l : Inst) × (slice_get later i ≡ Some l) × ((c : ℕ) → c ≢ b → entry_of l.mastering.directory c ≡ entry_of k.mastering.directory c)
       go (inl e) =
           let own : Some n ≡ Some k = sym at ∙ ap (slice_get insts) (sym e) ∙ is in
           let same : n ≡ k = some-one n k own in
-          (m, ap (slice_get later) e ∙ set-here insts me n m at, alike.mastering ∙ ap (λ (x : Inst). x.mastering) same)
-      go (inr ne) = (k, set-there insts me i m ne ∙ is, refl)
+          (m, ap (slice_get later) e ∙ set-here insts me n m at, λ c ne. near.entries c ne ∙ ap (λ (x : Inst). entry_of x.mastering.directory c) same)
+      go (inr ne) = (k, set-there insts me i m ne ∙ is, λ c apart. refl)
 
   -- who masters a block did so before
-  only-after : (b master : ℕ) → ((i : ℕ) (k : Inst) → slice_get insts i ≡ Some k → is_master k b ≡ true → i ≡ master) → (i : ℕ) (k : Inst) → slice_get later i ≡ Some k → is_master k b ≡ true → i ≡ master
-  only-after b master only =
-      each-after insts me n m at (λ i k. is_master k b ≡ true → i ≡ master) only
-      (λ is. only me n at (subst (λ (g : Mastering). is_some (bucket_of g.directory (b % 16)) ≡ true) alike.mastering is))
+  only-after : (c master : ℕ) → ((i : ℕ) (k : Inst) → slice_get insts i ≡ Some k → is_master k c ≡ true → i ≡ master) → (i : ℕ) (k : Inst) → slice_get later i ≡ Some k → is_master k c ≡ true → i ≡ master
+  only-after c master only = each-after insts me n m at (λ i k. is_master k c ≡ true → i ≡ master) only (λ is. only me n at (near.masters c is))
 
-  newest-same : (b : ℕ) → newest_at m b ≡ newest_at n b
-  newest-same b = ap (λ (places : List ℕ). slice_index_or places b 0) alike.newest
+  newest-same : (c : ℕ) → newest_at m c ≡ newest_at n c
+  newest-same c = ap (λ (places : List ℕ). slice_index_or places c 0) near.newest
+
+  -- where it masters what it mastered, the entry of the block is where it was
+  pub seat-stays : m.mastering ≡ n.mastering → (f : Follows links insts disk p.whole b) → (seat : Inst) × (slice_get later f.master ≡ Some seat) × (entry_of seat.mastering.directory b ≡ Some f.entry)
+  seat-stays unmoved f = go (same-or-not f.master me)
+    where
+      go : (f.master ≡ me) ⊎ (f.master ≢ me) → (seat : Inst) × (slice_get later f.master ≡ Some seat) × (entry_of seat.mastering.directory b ≡ Some f.entry)
+      go (inl e) =
+          let same : n ≡ f.seat = some-one n f.seat (sym at ∙ ap (slice_get insts) (sym e) ∙ f.there) in
+          (m, ap (slice_get later) e ∙ set-here insts me n m at, ap (λ (g : Mastering). entry_of g.directory b) (unmoved ∙ ap (λ (x : Inst). x.mastering) same) ∙ f.is_entry)
+      go (inr ne) = (f.seat, set-there insts me f.master m ne ∙ f.there, f.is_entry)
+
+  pub fine-stays : m.mastering ≡ n.mastering → (entry : Entry) → entry_of m.mastering.directory b ≡ Some entry → IsFine (newest p.whole) steps b entry
+  fine-stays unmoved entry is = p.entries me n b entry at (sym (ap (λ (g : Mastering). entry_of g.directory b) unmoved) ∙ is)
+
+  -- an entry is fine still once others are
+  pub fine-later : (made : ℕ → ℕ) → ((d : ℕ) → made d ≡ newest p.whole d) → ((entry : Entry) → entry_of m.mastering.directory b ≡ Some entry → IsFine (newest p.whole) steps b entry)
+      → (i : ℕ) (k : Inst) → slice_get later i ≡ Some k → (c : BlockNo) (entry : Entry) → entry_of k.mastering.directory c ≡ Some entry → IsFine made steps c entry
+  fine-later made same fine =
+      each-after insts me n m at (λ i k. (c : BlockNo) (entry : Entry) → entry_of k.mastering.directory c ≡ Some entry → IsFine made steps c entry)
+      (λ i k is c entry e. still c entry (p.entries i k c entry is e)) (λ c entry e. own c entry e (same-or-not c b))
+    where
+      still : (c : BlockNo) (entry : Entry) → IsFine (newest p.whole) steps c entry → IsFine made steps c entry
+      still c entry it = record {
+        names = it.names;
+        waits = queue-later (newest p.whole) made (λ d. let equal = same d in omega (arith, equal)) entry.queue it.waits;
+        drawn = it.drawn;
+      }
+
+      own : (c : BlockNo) (entry : Entry) → entry_of m.mastering.directory c ≡ Some entry → (c ≡ b) ⊎ (c ≢ b) → IsFine made steps c entry
+      own c entry e (inl equal) = subst (λ (d : ℕ). IsFine made steps d entry) (sym equal) (still b entry (fine entry (subst (λ (d : ℕ). entry_of m.mastering.directory d ≡ Some entry) equal e)))
+      own c entry e (inr ne) = still c entry (p.entries me n c entry at (sym (near.entries c ne) ∙ e))
 
   -- another block follows on, whose clocks and links are others
-  pub other-follows : (b c : BlockNo) (after : Block) (clock : ℕ → Scn) (links_now : List (List Packet)) (disk_now : Content) → (led : Led p.whole clock b after) → AreLinks links_now → Same (bag_of c links) (bag_of c links_now)
+  pub other-follows : (c : BlockNo) (after : Block) (clock : ℕ → Scn) (links_now : List (List Packet)) (disk_now : Content) → (led : Led p.whole clock b after) → AreLinks links_now → Same (bag_of c links) (bag_of c links_now)
       → (place_at m.cache c ≡ place_at n.cache c) → (block_at disk_now c ≡ block_at disk c) → c ≢ b → Follows links insts disk p.whole c → Follows links_now later disk_now led.last c
-  other-follows b c after clock links_now disk_now led sized bag same bytes ne f =
+  other-follows c after clock links_now disk_now led sized bag same bytes ne f =
       let seat = seat-after f.master f.seat f.there in
       let here : (view led.last c).block ≡ record (view p.whole c).block { clock = clock } = led.others c ne in
       record {
@@ -161,16 +223,18 @@ module _ (count steps blocks : ℕ) (links : List (List Packet)) (masters : Mast
         master = f.master;
         seat = seat.0;
         there = seat.1;
-        is_entry = ap (λ (g : Mastering). entry_of g.directory c) seat.2 ∙ f.is_entry;
+        is_entry = seat.2 c ne ∙ f.is_entry;
         at_master = ap (λ (s : Block). s.place) here ∙ f.at_master;
         only = only-after c f.master f.only;
-        durable = λ i d. subst (λ (s : Block). IsForced s i) (sym here) (f.durable i (durable-before insts me n m at c i (newest-same c) (ap (λ (t : ThreadState). t.durable) alike.thread) d));
+        durable = λ i d. subst (λ (s : Block). IsForced s i) (sym here) (f.durable i (durable-before insts me n m at c i (newest-same c) (ap (λ (t : ThreadState). t.durable) near.thread) d));
       }
 
-  -- What an instance did with its image of a block, as the protocol has it.
-  pub record Did (b : BlockNo) (f : Follows links insts disk p.whole b) (clock : ℕ → Scn) (links_now : List (List Packet)) (disk_now : Content) (after : Block) (h : Holdings) : Type 0 where
+  -- What an instance did with the block, as the protocol has it.
+  pub record Did (f : Follows links insts disk p.whole b) (clock : ℕ → Scn) (links_now : List (List Packet)) (disk_now : Content) (entry : Entry) (after : Block) (h : Holdings) : Type 0 where
     pub led : Led p.whole clock b after
-    pub shown : IsShown links_now h b f.entry after
+    pub shown : IsShown links_now h b entry after
+    pub seat : (seat : Inst) × (slice_get later f.master ≡ Some seat) × (entry_of seat.mastering.directory b ≡ Some entry)
+    pub fine : (other : Entry) → entry_of m.mastering.directory b ≡ Some other → IsFine (newest p.whole) steps b other
     pub bags : (d : BlockNo) → d ≢ b → Same (bag_of d links) (bag_of d links_now)
     pub place : after.place ≡ (view p.whole b).block.place
     pub records : after.records ≡ (view p.whole b).block.records
@@ -178,30 +242,29 @@ module _ (count steps blocks : ℕ) (links : List (List Packet)) (masters : Mast
     pub own : h.places me ≡ place_at m.cache b
     pub on_disk : IsOnDisk disk_now b h.disk
 
-  this-follows : (b : BlockNo) (f : Follows links insts disk p.whole b) (clock : ℕ → Scn) (links_now : List (List Packet)) (disk_now : Content) (after : Block) (h : Holdings) (it : Did b f clock links_now disk_now after h) → Follows links_now later disk_now it.led.last b
-  this-follows b f clock links_now disk_now after h it =
-      let seat = seat-after f.master f.seat f.there in
+  this-follows : (f : Follows links insts disk p.whole b) (clock : ℕ → Scn) (links_now : List (List Packet)) (disk_now : Content) (entry : Entry) (after : Block) (h : Holdings) (it : Did f clock links_now disk_now entry after h) → Follows links_now later disk_now it.led.last b
+  this-follows f clock links_now disk_now entry after h it =
       record {
-        entry = f.entry;
+        entry = entry;
         h = h;
-        shown = subst (λ (s : Block). IsShown links_now h b f.entry s) (sym it.led.here) it.shown;
+        shown = subst (λ (s : Block). IsShown links_now h b entry s) (sym it.led.here) it.shown;
         places = read-after insts me n m at (λ (o : Option Inst). place_of o b) h.places (λ i apart. it.others i apart ∙ f.places i) it.own;
         on_disk = it.on_disk;
         master = f.master;
-        seat = seat.0;
-        there = seat.1;
-        is_entry = ap (λ (g : Mastering). entry_of g.directory b) seat.2 ∙ f.is_entry;
+        seat = it.seat.0;
+        there = it.seat.1;
+        is_entry = it.seat.2;
         at_master = ap (λ (s : Block). s.place) it.led.here ∙ it.place ∙ f.at_master;
         only = only-after b f.master f.only;
         durable = λ i d. subst (λ (rs : List Record). AllByRecursion (λ redo. redo.maker ≡ i → redo.durable ≡ true) rs) (sym (ap (λ (s : Block). s.records) it.led.here ∙ it.records))
-            (f.durable i (durable-before insts me n m at b i (newest-same b) (ap (λ (t : ThreadState). t.durable) alike.thread) d));
+            (f.durable i (durable-before insts me n m at b i (newest-same b) (ap (λ (t : ThreadState). t.durable) near.thread) d));
       }
 
   -- all blocks play on
-  pub plays-on : (b : BlockNo) → b < blocks → (f : Follows links insts disk p.whole b) (clock : ℕ → Scn) (links_now : List (List Packet)) (disk_now : Content) (after : Block) (h : Holdings) (it : Did b f clock links_now disk_now after h)
+  pub plays-on : b < blocks → (f : Follows links insts disk p.whole b) (clock : ℕ → Scn) (links_now : List (List Packet)) (disk_now : Content) (entry : Entry) (after : Block) (h : Holdings) (it : Did f clock links_now disk_now entry after h)
       → ((c : ℕ) → c ≢ b → block_at disk_now c ≡ block_at disk c) → ((i : ℕ) → i ≢ me → clock i ≡ p.whole.clock i) → clock me ≡ m.clock.scn → ((c : ℕ) → c ≢ b → place_at m.cache c ≡ place_at n.cache c) → AreSaneLinks (newest p.whole) links_now
       → Plays count steps blocks links_now masters later disk_now
-  plays-on b few f clock links_now disk_now after h it disks others own places sane =
+  plays-on few f clock links_now disk_now entry after h it disks others own places sane =
       let led = it.led in
       let made : (c : ℕ) → newest led.last c ≡ newest p.whole c = λ c. made-same c (same-or-not c b) in
       record {
@@ -213,14 +276,12 @@ module _ (count steps blocks : ℕ) (links : List (List Packet)) (masters : Mast
         awake = led.awake;
         few = p.few;
         sized = it.shown.sized;
-        each = each-after insts me n m at (Serves count blocks) p.each (serves-still count blocks me n m alike (p.each me n at));
+        each = each-after insts me n m at (Serves count blocks) p.each (serves-still count blocks me b n m near (p.each me n at));
         named = p.named;
         clocks = read-after insts me n m at clock_of led.last.clock (λ i apart. ap (λ (c : ℕ → Scn). c i) led.clocks ∙ others i apart ∙ p.clocks i) (ap (λ (c : ℕ → Scn). c me) led.clocks ∙ own);
         sane = links-later (newest p.whole) (newest led.last) (λ c. let same = made c in omega (arith, same)) links_now sane;
         made = λ c. let same = made c in let few = p.made c in omega (arith, same, few);
-        entries = λ j x d what is_there is_it. each-after insts me n m at (λ i k. (c : BlockNo) (entry : Entry) → entry_of k.mastering.directory c ≡ Some entry → IsFine (newest led.last) steps c entry)
-            (λ i k is c entry e. fine-still c entry made (p.entries i k c entry is e))
-            (λ c entry e. fine-still c entry made (p.entries me n c entry at (sym (ap (λ (g : Mastering). entry_of g.directory c) alike.mastering) ∙ e))) j x is_there d what is_it;
+        entries = λ j x d what is_there is_it. fine-later (newest led.last) made it.fine j x is_there d what is_it;
         follows = λ c low. follows-at c low (same-or-not c b);
       }
     where
@@ -228,13 +289,6 @@ module _ (count steps blocks : ℕ) (links : List (List Packet)) (masters : Mast
       made-same c (inl e) = subst (λ (d : ℕ). newest it.led.last d ≡ newest p.whole d) (sym e) (ap (λ (s : Block). length s.records) it.led.here ∙ ap (λ (rs : List Record). length rs) it.records)
       made-same c (inr ne) = ap (λ (s : Block). length s.records) (it.led.others c ne)
 
-      fine-still : (c : BlockNo) (entry : Entry) → ((d : ℕ) → newest it.led.last d ≡ newest p.whole d) → IsFine (newest p.whole) steps c entry → IsFine (newest it.led.last) steps c entry
-      fine-still c entry made fine = record {
-        names = fine.names;
-        waits = queue-later (newest p.whole) (newest it.led.last) (λ d. let same = made d in omega (arith, same)) entry.queue fine.waits;
-        drawn = fine.drawn;
-      }
-
       follows-at : (c : BlockNo) → c < blocks → (c ≡ b) ⊎ (c ≢ b) → Follows links_now later disk_now it.led.last c
-      follows-at c low (inl e) = subst (λ (d : ℕ). Follows links_now later disk_now it.led.last d) (sym e) (this-follows b f clock links_now disk_now after h it)
-      follows-at c low (inr ne) = other-follows b c after clock links_now disk_now it.led it.shown.sized (it.bags c ne) (places c ne) (disks c ne) ne (p.follows c low)
+      follows-at c low (inl e) = subst (λ (d : ℕ). Follows links_now later disk_now it.led.last d) (sym e) (this-follows f clock links_now disk_now entry after h it)
+      follows-at c low (inr ne) = other-follows c after clock links_now disk_now it.led it.shown.sized (it.bags c ne) (places c ne) (disks c ne) ne (p.follows c low)

@@ -13,3 +13,4 @@ pub mod Coming
 pub mod Lacking
 pub mod Acting
 pub mod Writing
+pub mod Mastering

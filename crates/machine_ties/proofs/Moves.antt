@@ -14,8 +14,7 @@ use Rattle.resource_dir.specs.Directory.{entry_of}
 use Rattle.buffer_cache.specs.Cache.{place_at}
 use Rattle.rac_disk.specs.Content.{Content, block_at}
 use Rattle.inst_state.specs.declared.inst.Inst.{Inst}
-use Rattle.inst_state.specs.declared.inst.Mastering.{Mastering}
-use Rattle.block_protocol.specs.AllBlocks.{AllBlocks, view}
+use Rattle.block_protocol.specs.AllBlocks.{view}
 use Rattle.block_protocol.specs.Block.{Block, Scn}
 use Rattle.block_protocol.specs.Wire.{Same, Wire}
 use Rattle.block_protocol.proofs.Basics.{put-other, put-same}
@@ -27,10 +26,10 @@ use Rattle.protocol_ties.proofs.Links.{sent-comes-in, taken-has-gone}
 use Rattle.protocol_ties.proofs.OnLinks.{same-sym}
 use Rattle.protocol_ties.proofs.Turns.{all-after}
 use Rattle.holder_ties.specs.Shown.{Does, GoesOn, Holdings}
-use Rattle.machine_ties.proofs.Holds.{Alike, holder-place, other-follows, plays-on, serves-still}
+use Rattle.machine_ties.proofs.Holds.{Alike, Near, alike-near, fine-later, fine-stays, holder-place, other-follows, plays-on, seat-stays, serves-still}
 use Rattle.machine_ties.proofs.Led.{Led, led-does, led-goes, led-rises, risen_clock}
 use Rattle.machine_ties.specs.Sane.{AreSaneLinks}
-use Rattle.machine_ties.proofs.Links.{links-later, queue-later}
+use Rattle.machine_ties.proofs.Links.{links-later}
 use Rattle.machine_ties.specs.Plays.{IsFine, IsOnDisk, Plays, Serves, clock_of, newest}
 use Rattle.machine_ties.proofs.Plays.{each-after, read-after, same-or-not}
 
@@ -54,6 +53,42 @@ by_no true isnt = absurd (isnt refl)
 by_no false isnt = refl
 
 module _ (count steps blocks : ℕ) (links : List (List Packet)) (masters : Masters) (insts : List Inst) (disk : Content) (p : Plays count steps blocks links masters insts disk)
+    (me : ℕ) (n m : Inst) (at : slice_get insts me ≡ Some n) (b : BlockNo) (near : Near b n m) where
+  -- its clock has risen, and messages that are about none of the blocks were taken or sent
+  pub plays-hears : blocks ≤ b → ((entry : Entry) → entry_of m.mastering.directory b ≡ Some entry → IsFine (newest p.whole) steps b entry) → (scn : ℕ) (links_now : List (List Packet)) (disk_now : Content) → max n.clock.scn scn ≡ m.clock.scn
+      → ((c : ℕ) → c < blocks → place_at m.cache c ≡ place_at n.cache c) → ((c : ℕ) → c < blocks → block_at disk_now c ≡ block_at disk c)
+      → AreLinks links_now → ((c : ℕ) → c < blocks → Same (bag_of c links) (bag_of c links_now)) → AreSaneLinks (newest p.whole) links_now → Plays count steps blocks links_now masters (slice_set insts me m) disk_now
+  plays-hears high fine scn links_now disk_now clock places disks sized bags sane =
+      let led = led-rises p.whole me scn b p.phase p.awake in
+      let made : (c : ℕ) → newest led.last c ≡ newest p.whole c = λ c. ap (λ (s : Block). length s.records) (raised-at led c) in
+      record {
+        whole = led.last;
+        first_master = p.first_master;
+        run = all-after p.run led.run;
+        phase = led.phase ∙ p.phase;
+        live = λ i low. ap (λ (l : ℕ → Bool). l i) led.live ∙ p.live i low;
+        awake = led.awake;
+        few = p.few;
+        sized = sized;
+        each = each-after insts me n m at (Serves count blocks) p.each (serves-still count blocks me b n m near (p.each me n at));
+        named = p.named;
+        clocks = read-after insts me n m at clock_of led.last.clock
+            (λ i apart. ap (λ (c : ℕ → Scn). c i) led.clocks ∙ put-other p.whole.clock me (max (p.whole.clock me) scn) i (λ e. apart (sym e)) ∙ p.clocks i)
+            (ap (λ (c : ℕ → Scn). c me) led.clocks ∙ put-same p.whole.clock me (max (p.whole.clock me) scn) ∙ ap (λ (c : ℕ). max c scn) (own-clock count steps blocks links masters insts disk p me n at) ∙ clock);
+        sane = links-later (newest p.whole) (newest led.last) (λ c. let same = made c in omega (arith, same)) links_now sane;
+        made = λ c. let same = made c in let few = p.made c in omega (arith, same, few);
+        entries = λ j x d what is_there is_it. fine-later count steps blocks links masters insts disk p me n m at b near (newest led.last) made fine j x is_there d what is_it;
+        follows = λ c low. other-follows count steps blocks links masters insts disk p me n m at b near c (raised me scn (view p.whole b).block) (risen_clock p.whole me scn) links_now disk_now led sized (bags c low) (places c low) (disks c low) (λ e. omega (arith, low, e, high)) (p.follows c low);
+      }
+    where
+      raised-at : (led : Led p.whole (risen_clock p.whole me scn) b (raised me scn (view p.whole b).block)) (c : ℕ) → (view led.last c).block ≡ record (view p.whole c).block { clock = risen_clock p.whole me scn }
+      raised-at led c = go (same-or-not c b)
+        where
+          go : (c ≡ b) ⊎ (c ≢ b) → (view led.last c).block ≡ record (view p.whole c).block { clock = risen_clock p.whole me scn }
+          go (inl e) = subst (λ (d : ℕ). (view led.last d).block ≡ record (view p.whole d).block { clock = risen_clock p.whole me scn }) (sym e) led.here
+          go (inr ne) = led.others c ne
+
+module _ (count steps blocks : ℕ) (links : List (List Packet)) (masters : Masters) (insts : List Inst) (disk : Content) (p : Plays count steps blocks links masters insts disk)
     (me : ℕ) (n m : Inst) (at : slice_get insts me ≡ Some n) (alike : Alike n m) where
   abbrev later : List Inst
   later = slice_set insts me m
@@ -66,9 +101,11 @@ module _ (count steps blocks : ℕ) (links : List (List Packet)) (masters : Mast
       → h.records ≡ (p.follows b low).h.records → ((i : ℕ) → i ≢ me → h.places i ≡ (p.follows b low).h.places i) → h.places me ≡ place_at m.cache b → IsOnDisk disk b h.disk
       → max n.clock.scn scn ≡ m.clock.scn → ((c : ℕ) → c ≢ b → place_at m.cache c ≡ place_at n.cache c) → AreSaneLinks (newest p.whole) links_now → Plays count steps blocks links_now masters later disk
   plays-goes b low scn links_now h it records others own on_disk clock places sane =
-      plays-on count steps blocks links masters insts disk p me n m at alike b low (p.follows b low) (risen_clock p.whole me scn) links_now disk it.after h (record {
+      plays-on count steps blocks links masters insts disk p me n m at b (alike-near b n m alike) low (p.follows b low) (risen_clock p.whole me scn) links_now disk (p.follows b low).entry it.after h (record {
         led = led-goes p.whole me scn b it.after p.phase live p.awake it.run;
         shown = it.shown;
+        seat = seat-stays count steps blocks links masters insts disk p me n m at b (alike-near b n m alike) alike.mastering (p.follows b low);
+        fine = fine-stays count steps blocks links masters insts disk p me n m at b (alike-near b n m alike) alike.mastering;
         bags = it.others;
         place = holder-place it.run;
         records = it.shown.around.records ∙ records ∙ sym (p.follows b low).shown.around.records;
@@ -85,9 +122,11 @@ module _ (count steps blocks : ℕ) (links : List (List Packet)) (masters : Mast
       → ((c : ℕ) → c ≢ b → block_at disk_now c ≡ block_at disk c) → n.clock.scn ≡ m.clock.scn → ((c : ℕ) → c ≢ b → place_at m.cache c ≡ place_at n.cache c) → AreSaneLinks (newest p.whole) links_now
       → Plays count steps blocks links_now masters later disk_now
   plays-does b low links_now disk_now h it records others own on_disk disks clock places sane =
-      plays-on count steps blocks links masters insts disk p me n m at alike b low (p.follows b low) p.whole.clock links_now disk_now it.after h (record {
+      plays-on count steps blocks links masters insts disk p me n m at b (alike-near b n m alike) low (p.follows b low) p.whole.clock links_now disk_now (p.follows b low).entry it.after h (record {
         led = led-does p.whole me b it.after p.phase live p.awake it.run;
         shown = it.shown;
+        seat = seat-stays count steps blocks links masters insts disk p me n m at b (alike-near b n m alike) alike.mastering (p.follows b low);
+        fine = fine-stays count steps blocks links masters insts disk p me n m at b (alike-near b n m alike) alike.mastering;
         bags = it.others;
         place = holder-place it.run;
         records = it.shown.around.records ∙ records ∙ sym (p.follows b low).shown.around.records;
@@ -101,43 +140,8 @@ module _ (count steps blocks : ℕ) (links : List (List Packet)) (masters : Mast
       → ((c : ℕ) → c < blocks → block_at disk_now c ≡ block_at disk c)
       → AreLinks links_now → ((c : ℕ) → c < blocks → Same (bag_of c links) (bag_of c links_now)) → AreSaneLinks (newest p.whole) links_now → Plays count steps blocks links_now masters later disk_now
   plays-rises scn links_now disk_now clock places disks sized bags sane =
-      let led = led-rises p.whole me scn blocks p.phase p.awake in
-      let made : (c : ℕ) → newest led.last c ≡ newest p.whole c = λ c. ap (λ (s : Block). length s.records) (raised-at led c) in
-      record {
-        whole = led.last;
-        first_master = p.first_master;
-        run = all-after p.run led.run;
-        phase = led.phase ∙ p.phase;
-        live = λ i low. ap (λ (l : ℕ → Bool). l i) led.live ∙ p.live i low;
-        awake = led.awake;
-        few = p.few;
-        sized = sized;
-        each = each-after insts me n m at (Serves count blocks) p.each (serves-still count blocks me n m alike (p.each me n at));
-        named = p.named;
-        clocks = read-after insts me n m at clock_of led.last.clock
-            (λ i apart. ap (λ (c : ℕ → Scn). c i) led.clocks ∙ put-other p.whole.clock me (max (p.whole.clock me) scn) i (λ e. apart (sym e)) ∙ p.clocks i)
-            (ap (λ (c : ℕ → Scn). c me) led.clocks ∙ put-same p.whole.clock me (max (p.whole.clock me) scn) ∙ ap (λ (c : ℕ). max c scn) (own-clock count steps blocks links masters insts disk p me n at) ∙ clock);
-        sane = links-later (newest p.whole) (newest led.last) (λ c. let same = made c in omega (arith, same)) links_now sane;
-        made = λ c. let same = made c in let few = p.made c in omega (arith, same, few);
-        entries = λ j x d what is_there is_it. each-after insts me n m at (λ i k. (c : BlockNo) (entry : Entry) → entry_of k.mastering.directory c ≡ Some entry → IsFine (newest led.last) steps c entry)
-            (λ i k is c entry e. fine-still led.last c entry made (p.entries i k c entry is e))
-            (λ c entry e. fine-still led.last c entry made (p.entries me n c entry at (sym (ap (λ (g : Mastering). entry_of g.directory c) alike.mastering) ∙ e))) j x is_there d what is_it;
-        follows = λ c low. other-follows count steps blocks links masters insts disk p me n m at alike blocks c (raised me scn (view p.whole blocks).block) (risen_clock p.whole me scn) links_now disk_now led sized (bags c low) (places c low) (disks c low) (λ e. omega (arith, low, e)) (p.follows c low);
-      }
-    where
-      raised-at : (led : Led p.whole (risen_clock p.whole me scn) blocks (raised me scn (view p.whole blocks).block)) (c : ℕ) → (view led.last c).block ≡ record (view p.whole c).block { clock = risen_clock p.whole me scn }
-      raised-at led c = go (same-or-not c blocks)
-        where
-          go : (c ≡ blocks) ⊎ (c ≢ blocks) → (view led.last c).block ≡ record (view p.whole c).block { clock = risen_clock p.whole me scn }
-          go (inl e) = subst (λ (d : ℕ). (view led.last d).block ≡ record (view p.whole d).block { clock = risen_clock p.whole me scn }) (sym e) led.here
-          go (inr ne) = led.others c ne
-
-      fine-still : (last : AllBlocks) (c : BlockNo) (entry : Entry) → ((d : ℕ) → newest last d ≡ newest p.whole d) → IsFine (newest p.whole) steps c entry → IsFine (newest last) steps c entry
-      fine-still last c entry made fine = record {
-        names = fine.names;
-        waits = queue-later (newest p.whole) (newest last) (λ d. let same = made d in omega (arith, same)) entry.queue fine.waits;
-        drawn = fine.drawn;
-      }
+      plays-hears count steps blocks links masters insts disk p me n m at blocks (alike-near blocks n m alike) (omega arith)
+      (fine-stays count steps blocks links masters insts disk p me n m at blocks (alike-near blocks n m alike) alike.mastering) scn links_now disk_now clock places disks sized bags sane
 
   -- an instance has taken a message about a block, which is one of these or another one
   pub plays-takes : (b : BlockNo) (scn : ℕ) (links_now : List (List Packet)) → AreLinks links_now → ((c : ℕ) → c ≢ b → Same (bag_of c links) (bag_of c links_now)) → AreSaneLinks (newest p.whole) links_now

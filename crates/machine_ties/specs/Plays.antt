@@ -1,5 +1,5 @@
 -- The machine plays the protocol of each block.
-use Rattle.std.specs.Prelude.{◌≡◌, ℕ, ◌+◌, ◌-◌, ◌*◌, ◌^◌, ◌<◌, ◌≤◌, List, [], length, Option, None, Some, slice_get, true, false}
+use Rattle.std.specs.Prelude.{◌≡◌, ℕ, ◌+◌, ◌-◌, ◌*◌, ◌^◌, ◌<◌, ◌≤◌, List, [], length, Option, None, Some, slice_get, slice_index_or, true, false}
 use Rattle.base_types.specs.declared.names.BlockNo.{BlockNo}
 use Rattle.block_image.specs.Block.{BlockContent, block_bytes}
 use Rattle.rac_disk.specs.Content.{Content, block_at}
@@ -46,7 +46,7 @@ IsDurableIn insts block i = IsDurableOf (slice_get insts i) block
 abbrev pub AreOfBlocks : CacheState → Type 0
 AreOfBlocks cache = (c : ℕ) (now : Current) → (place_at cache c).current ≡ Some now → now.image.front.number ≡ c
 
--- An instance serves: it is up, isn't paused, and leads no recovery.
+-- An instance serves: it is up, isn't paused, leads no recovery, and has sent its buckets to instances that there are.
 pub record Serves (count blocks i : ℕ) (n : Inst) : Type 0 where
   pub low : i < count
   pub me : n.plan.me ≡ i
@@ -55,6 +55,7 @@ pub record Serves (count blocks i : ℕ) (n : Inst) : Type 0 where
   pub leads : n.leading.leads ≡ false
   pub adopted : n.leading.adopted ≡ []
   pub sized : IsSized n.mastering.directory
+  pub passes : (bucket to : ℕ) → slice_index_or n.mastering.sent.by_bucket bucket None ≡ Some to → to < 8
   pub cached : length n.cache.places ≡ blocks
   pub numbers : AreOfBlocks n.cache
   pub reached : (b : ℕ) → newest_at n b ≤ end_of n.thread

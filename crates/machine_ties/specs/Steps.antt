@@ -22,6 +22,7 @@ use Rattle.image_steps.specs.DropPast.{may_drop_past, past_dropped, past_sent}
 use Rattle.image_steps.specs.Evict.{evict_sent, evicted, may_evict}
 use Rattle.image_steps.specs.Hear.{first_message, heard, hears}
 use Rattle.image_steps.specs.Invalidate.{invalidate_sent, invalidated, may_invalidate}
+use Rattle.image_steps.specs.MasterTake.{master_sent, master_taken, may_take_at_master}
 use Rattle.image_steps.specs.ServeCopy.{copy_sent, may_serve_copy}
 use Rattle.image_steps.specs.Ship.{may_ship, ship_sent, shipped}
 use Rattle.image_steps.specs.TakeCopy.{copy_taken, may_take_copy}
@@ -86,6 +87,18 @@ InstallsPlay = PlayOnDisk may_install (λ n core from how. HasRead (first_messag
 -- a dirty block is written, and its master hears of it where it is to
 abbrev pub WritesPlay : Type 0
 WritesPlay = PlayOnDisk may_write_block (λ n core block how. how ≡ Done) (λ n core block how old new. WritesBlockAs block (bytes_to_write n block) how old new) (λ n core block how. block_written n block how) write_told
+
+-- Where so few steps were made that grants are left, an instance takes a message for a master: as the master of its block, or by
+-- passing it on. A step more was made then.
+abbrev pub MasterTakesPlay : Type 0
+MasterTakesPlay = (count steps blocks : ℕ) (core : Core) (insts : List Inst) (disk : Content) (n : Inst) (from : ℕ) → Plays count steps blocks core.net.links core.net.masters insts disk → AreFew steps
+    → slice_get insts n.plan.me ≡ Some n → may_take_at_master n core from ≡ true
+    → Plays count (steps + 1) blocks (master_sent n core from).net.links core.net.masters (slice_set insts n.plan.me (master_taken n core from)) disk
+
+-- What is played after so many steps is played after one more.
+abbrev pub StepsMayBeMore : Type 0
+StepsMayBeMore = (count steps blocks : ℕ) (core : Core) (insts : List Inst) (disk : Content) → Plays count steps blocks core.net.links core.net.masters insts disk
+    → Plays count (steps + 1) blocks core.net.links core.net.masters insts disk
 
 -- What a master sends is sane where the message is and what waits at the entry; so is what waits then.
 abbrev pub MastersAreSane : Type 0

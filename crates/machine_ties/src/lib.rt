@@ -7,4 +7,6 @@
 
 mod steps;
 
-pub use steps::{a_master_stays_sane, steps_with_blocks_play, steps_with_images_play};
+pub use steps::{
+    a_master_plays, a_master_stays_sane, steps_with_blocks_play, steps_with_images_play,
+};
