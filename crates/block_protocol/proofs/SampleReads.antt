@@ -66,8 +66,10 @@ one-left j h e =
     let left = out-some 2 readers j h e in
     two-readers (λ k. 2 ≢ k.grant → j ≡ 1) j h left.0 (λ at ne. sym at) (λ at ne. absurd (ne refl)) left.1
 
-pub upgraded : (s : Block) × Run (start 0) s × (s.frame 1 ≡ Some upgraded_hold) × (s.frame 2 ≡ None) × (s.version 1 ≡ 1)
+pub upgraded : (readers : Block) × (s : Block) × Run (start 0) readers × (readers.frame 1 ≡ Some first_reader) × (readers.frame 2 ≡ Some second_reader)
+    × Run readers s × (s.frame 1 ≡ Some upgraded_hold) × (s.frame 2 ≡ None) × (s.version 1 ≡ 1)
 upgraded = (
+  _,
   _,
   goes (asks (start 0) 1 Read refl tt refl)
       (goes (arrives _ 1 Read 0 refl (omega arith))
@@ -81,7 +83,10 @@ upgraded = (
       (goes (installs_shipped _ 2 second_reader 0 false 0 refl (omega arith))
       (goes (ends _ 2 second_reader refl)
       (goes (uses _ 2 second_reader 0 refl (omega arith))
-      (goes (asks _ 1 Upgrade refl tt (first_reader, refl, refl))
+      (stays _)))))))))))),
+  refl,
+  refl,
+  goes (asks _ 1 Upgrade refl tt (first_reader, refl, refl))
       (goes (arrives _ 1 Upgrade 0 refl (omega arith))
       (goes (begins_to_clear _ 1 Upgrade (Invalidate 2 2 ∷ []) refl refl refl (λ n. absurd (n refl)) all-shared (record { each = ((omega arith, refl), tt); all = all-told }))
       (goes (invalidates _ 2 second_reader [] (here []) refl)
@@ -90,7 +95,7 @@ upgraded = (
       (goes (installs_held _ 1 upgraded_hold 0 refl (omega arith))
       (goes (ends _ 1 upgraded_hold refl)
       (goes (changes _ 1 upgraded_hold refl refl)
-      (stays _))))))))))))))))))))),
+      (stays _))))))))),
   refl,
   refl,
   refl,

@@ -156,6 +156,7 @@ pub data TurnOfAll : AllBlocks → AllBlocks → Type 0 where
 abbrev pub first_of_all : ℕ → (BlockNo → Inst) → AllBlocks
 first_of_all n master = record { members = (first n 0).members; clock = λ inst. 0; blocks = λ b. first n (master b) }
 
+-- turns of all blocks, one after another
 pub data RunOfAll : AllBlocks → AllBlocks → Type 0 where
   all_end : (whole : AllBlocks) → RunOfAll whole whole
   all_go : {before between after : AllBlocks} → TurnOfAll before between → RunOfAll between after → RunOfAll before after

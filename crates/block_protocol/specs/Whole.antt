@@ -21,6 +21,7 @@ pub record Floored (block : Block) : Type 0 where
   pub floors : GoodFloors block
   pub drawn : AreDrawn block
 
+-- what each step of a block keeps, in six parts
 pub record Whole (block : Block) : Type 0 where
   pub directory : Sound block
   pub owned : AllOwned block

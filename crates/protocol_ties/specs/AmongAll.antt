@@ -64,6 +64,7 @@ pub record IsTakenAmong (whole : AllBlocks) (directory : Directory) (me : Inst) 
   pub others : (other : BlockNo) → other ≢ block_no
       → IsSameAt (directory_takes directory block_no message).directory directory other × ((clock : Scn) → wires_about other clock (directory_takes directory block_no message).sends ≡ [])
 
+-- a master that takes a message is a run of all blocks
 abbrev pub MessageIsTakenAmongAll : Type 0
 MessageIsTakenAmongAll = (whole : AllBlocks) (directory : Directory) (me : Inst) (scn : Scn) (block_no : BlockNo) (message : Message) (wires : List Wire) (entry : Entry) → IsEra whole.members.phase
     → MayTakeAmong whole directory me scn block_no message wires entry → HasRoom entry → IsTakenAmong whole directory me scn block_no message wires

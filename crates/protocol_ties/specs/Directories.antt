@@ -26,6 +26,7 @@ pub record TakesAtOne (directory : Directory) (block_no : BlockNo) (message : Me
   pub sends : (directory_takes directory block_no message).sends ≡ (takes entry message).sends
   pub others : (other : BlockNo) → other ≢ block_no → IsSameAt (directory_takes directory block_no message).directory directory other
 
+-- a message changes the entry of its block, and no other
 abbrev pub DirectoryTakesAtOne : Type 0
 DirectoryTakesAtOne = (directory : Directory) (block_no : BlockNo) (message : Message) (entry : Entry) → IsSized directory → entry_of directory block_no ≡ Some entry
     → TakesAtOne directory block_no message entry
@@ -42,6 +43,7 @@ pub record MovesWhole (from to : Directory) (bucket : ℕ) : Type 0 where
   pub others : (block_no : BlockNo) → block_no % 16 ≢ bucket
       → IsSameAt (with_bucket to bucket (bucket_of from bucket)) to block_no × IsSameAt (with_bucket from bucket None) from block_no
 
+-- a bucket that is sent is taken with all its entries, and no other moves
 abbrev pub BucketsMoveWhole : Type 0
 BucketsMoveWhole = (from to : Directory) (bucket : ℕ) → IsSized from → IsSized to → bucket < 16 → MovesWhole from to bucket
 

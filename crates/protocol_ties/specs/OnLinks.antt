@@ -64,6 +64,7 @@ pub record GoesOnLinks (me : Inst) (scn : Scn) (whole : AllBlocks) (before direc
   pub mastered : IsMastered me directory links block_no later after
   pub others : (other : BlockNo) → other ≢ block_no → IsSameAt directory before other × Same (bag_of other links_before) (bag_of other links)
 
+-- a master that takes the first packet of a link goes on by the protocol, with the links as its bag
 abbrev pub MasterTakesFromLinks : Type 0
 MasterTakesFromLinks = (me from : Inst) (whole : AllBlocks) (directory : Directory) (links : List (List Packet)) (packet : Packet) (block_no : BlockNo) (entry : Entry) → IsEra whole.members.phase
     → IsMastered me directory links block_no entry (view whole block_no).block → IsFirst me from links packet block_no (view whole block_no).block → HasRoom entry

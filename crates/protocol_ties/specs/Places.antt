@@ -70,6 +70,7 @@ abbrev pub CacheInvalidates : Type 0
 CacheInvalidates = (block : Block) (places : Inst → Place) (inst : Inst) (hold : Hold) (rest : List Note) (takes : Takes (Invalidate inst hold.grant) block.notes rest) (image : block.frame inst ≡ Some hold)
     → ArePlaces places block → Follows places inst (without_grant hold.grant (places inst)) (invalidates block inst hold rest takes image)
 
+-- an Invalidate for another grant finds no image, and leaves the place as it is
 abbrev pub CacheHasNone : Type 0
 CacheHasNone = (block : Block) (places : Inst → Place) (inst : Inst) (grant : GrantNo) (rest : List Note) (takes : Takes (Invalidate inst grant) block.notes rest)
     (another : (hold : Hold) → block.frame inst ≡ Some hold → hold.grant ≢ grant)
@@ -80,6 +81,7 @@ abbrev pub place_shipped : ProtocolMode → Place → Place
 place_shipped Shared place = place
 place_shipped Exclusive place = given_up place
 
+-- the place of an instance follows the protocol as it ships its image
 abbrev pub CacheShips : Type 0
 CacheShips = (block : Block) (places : Inst → Place) (asker : Inst) (granted : Hold) (inst : Inst) (grant : GrantNo) (hold : Hold) (ordered : block.op ≡ Grants asker granted (ShipTo inst grant))
     (image : block.frame inst ≡ Some hold) (forced : IsForced block inst)
@@ -98,6 +100,7 @@ CacheReads = (block : Block) (places : Inst → Place) (inst : Inst) (mode : Mod
     (le : scn ≤ block.clock inst) → hold_of mode granted.grant ≡ Some granted → content.front.version ≡ block.disk
     → ArePlaces places block → Follows places inst (with_current (Some (read_from_disk granted.grant mode content)) (places inst)) (installs_from_disk block inst granted scn comes le)
 
+-- its place follows the protocol as the image that it has becomes exclusive
 abbrev pub CacheUpgrades : Type 0
 CacheUpgrades = (block : Block) (places : Inst → Place) (inst : Inst) (granted : Hold) (scn : Scn) (comes : block.op ≡ Grants inst granted (Grant false scn)) (le : scn ≤ block.clock inst)
     → Sound block → granted.mode ≡ Exclusive

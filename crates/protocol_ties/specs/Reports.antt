@@ -64,6 +64,7 @@ pub record IsThawedEntry (entry : Entry) (block : Block) (bound : Scn) : Type 0 
   pub shows : Shows [] entry (thawed block (grant_of block.frame) (grant_of block.frame instances) bound)
   pub numbered : IsNumbered entry
 
+-- the entry that is made of the reports is the one of the Thaw
 abbrev pub ReportsMakeTheEntry : Type 0
 ReportsMakeTheEntry = (block_no : BlockNo) (reports : List (ℕ × Report)) (block : Block) (bound : Scn) → AreReports block_no reports block.frame → IsExclusiveAlone block.frame
     → IsThawedEntry (rebuilt block_no reports) block bound
