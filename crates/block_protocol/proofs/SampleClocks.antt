@@ -126,20 +126,20 @@ twice = (
   goes_on (plain _ _ (raises _ 0 10 (omega arith)) tt tt tt) (ends_here _),
   refl,
   goes_on (loses _ 2 0 10 [] [] (λ t. 0) refl (record { parts = refl; waited = tt }) (nothing-comes _ _ _ _) tt (record { above = record { clocks = λ j up. drawn j; threads = λ t. omega arith }; reached = inl (0, refl, omega arith) }))
-    (goes_on (reports _ 0 refl refl (λ f e d. absurd (none-some _ f (first-none 0) e)))
-    (goes_on (reports _ 1 refl refl (λ f e d. absurd (none-some _ f (first-none 1) e)))
-    (goes_on (closes _ 2 refl (0, refl) first-reported (inr (inr (first-pasts, tt))) refl (λ live. absurd (let clash : false ≡ true = live in cc)))
-    (goes_on (thaws _ (λ i. i + 1) 1 10 refl (0, refl) first-reported (inr (inr (first-pasts, tt))) first-closed first-running
-    (record { above = λ i. omega arith; below = λ i f e. absurd (none-some _ f (first-none i) e); apart = λ i j f x e y s. absurd (none-some _ f (first-none i) e) })
-    (record { clocks = λ j up. drawn j; threads = λ t. omega arith }))
-    (goes_on (plain _ _ (raises _ 0 10 (omega arith)) tt tt tt)
-    (goes_on (loses _ 0 0 0 [] [] (λ t. 0) refl (record { parts = refl; waited = tt }) (nothing-comes _ _ _ _) tt (record { above = record { clocks = fell; threads = λ t. omega arith }; reached = inr (0, omega arith) }))
-    (goes_on (reports _ 1 refl refl (λ f e d. absurd (none-some _ f (then-none 1) e)))
-    (goes_on (closes _ 0 refl (1, refl) then-reported (inr (inr (then-pasts, tt))) refl (λ live. absurd (let clash : false ≡ true = live in cc)))
-    (goes_on (thaws _ (λ i. i + 1) 1 0 refl (1, refl) then-reported (inr (inr (then-pasts, tt))) then-closed then-running
-    (record { above = λ i. omega arith; below = λ i f e. absurd (none-some _ f (then-none i) e); apart = λ i j f x e y s. absurd (none-some _ f (then-none i) e) })
-    (record { clocks = fell; threads = λ t. omega arith }))
-    (ends_here _)))))))))),
+      (goes_on (reports _ 0 refl refl (λ f e d. absurd (none-some _ f (first-none 0) e)))
+      (goes_on (reports _ 1 refl refl (λ f e d. absurd (none-some _ f (first-none 1) e)))
+      (goes_on (closes _ 2 refl (0, refl) first-reported (inr (inr (first-pasts, tt))) refl (λ live. absurd (let clash : false ≡ true = live in cc)))
+      (goes_on (thaws _ (λ i. i + 1) 1 10 refl (0, refl) first-reported (inr (inr (first-pasts, tt))) first-closed first-running
+      (record { above = λ i. omega arith; below = λ i f e. absurd (none-some _ f (first-none i) e); apart = λ i j f x e y s. absurd (none-some _ f (first-none i) e) })
+      (record { clocks = λ j up. drawn j; threads = λ t. omega arith }))
+      (goes_on (plain _ _ (raises _ 0 10 (omega arith)) tt tt tt)
+      (goes_on (loses _ 0 0 0 [] [] (λ t. 0) refl (record { parts = refl; waited = tt }) (nothing-comes _ _ _ _) tt (record { above = record { clocks = fell; threads = λ t. omega arith }; reached = inr (0, omega arith) }))
+      (goes_on (reports _ 1 refl refl (λ f e d. absurd (none-some _ f (then-none 1) e)))
+      (goes_on (closes _ 0 refl (1, refl) then-reported (inr (inr (then-pasts, tt))) refl (λ live. absurd (let clash : false ≡ true = live in cc)))
+      (goes_on (thaws _ (λ i. i + 1) 1 0 refl (1, refl) then-reported (inr (inr (then-pasts, tt))) then-closed then-running
+      (record { above = λ i. omega arith; below = λ i f e. absurd (none-some _ f (then-none i) e); apart = λ i j f x e y s. absurd (none-some _ f (then-none i) e) })
+      (record { clocks = fell; threads = λ t. omega arith }))
+      (ends_here _)))))))))),
 )
 
 pub taken-back : (w : Cluster) × (w.members.phase ≡ Running) × (w.block.records ≡ record { maker = 1; scn = 1; durable = false } ∷ []) × Turns again w
