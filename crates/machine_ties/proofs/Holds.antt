@@ -46,14 +46,15 @@ pub record Alike (n m : Inst) : Type 0 where
   pub cached : length m.cache.places ≡ length n.cache.places
   pub numbers : AreOfBlocks n.cache → AreOfBlocks m.cache
 
--- The same where it masters one block in another way, and the others as before.
+-- The same where it masters one block in another way, and the others as before, and where more redo may wait.
 pub record Near (b : ℕ) (n m : Inst) : Type 0 where
   pub plan : m.plan ≡ n.plan
   pub life : m.life ≡ n.life
   pub paused : m.paused ≡ n.paused
   pub leading : m.leading ≡ n.leading
   pub newest : m.newest ≡ n.newest
-  pub thread : m.thread ≡ n.thread
+  pub durable : m.thread.durable ≡ n.thread.durable
+  pub reaches : end_of n.thread ≤ end_of m.thread
   pub cached : length m.cache.places ≡ length n.cache.places
   pub numbers : AreOfBlocks n.cache → AreOfBlocks m.cache
   pub sent : m.mastering.sent ≡ n.mastering.sent
@@ -68,7 +69,8 @@ alike-near b n m a = record {
   paused = a.paused;
   leading = a.leading;
   newest = a.newest;
-  thread = a.thread;
+  durable = ap (λ (t : ThreadState). t.durable) a.thread;
+  reaches = subst (λ (t : ThreadState). end_of n.thread ≤ end_of t) (sym a.thread) (omega arith);
   cached = a.cached;
   numbers = a.numbers;
   sent = ap (λ (g : Mastering). g.sent) a.mastering;
@@ -81,7 +83,7 @@ pub serves-still : (count blocks i b : ℕ) (n m : Inst) → Near b n m → Serv
 serves-still count blocks i b n m a s = record {
   cached = a.cached ∙ s.cached;
   numbers = a.numbers s.numbers;
-  reached = λ c. subst (λ (t : ThreadState). newest_at m c ≤ end_of t) (sym a.thread) (subst (λ (x : ℕ). x ≤ end_of n.thread) (sym (ap (λ (places : List ℕ). slice_index_or places c 0) a.newest)) (s.reached c));
+  reached = λ c. let same : newest_at m c ≡ newest_at n c = ap (λ (places : List ℕ). slice_index_or places c 0) a.newest in let was = s.reached c in let far = a.reaches in omega (arith, same, was, far);
   low = s.low;
   me = ap (λ (p : Plan). p.me) a.plan ∙ s.me;
   up = a.life ∙ s.up;
@@ -226,7 +228,7 @@ module _ (count steps blocks : ℕ) (links : List (List Packet)) (masters : Mast
         is_entry = seat.2 c ne ∙ f.is_entry;
         at_master = ap (λ (s : Block). s.place) here ∙ f.at_master;
         only = only-after c f.master f.only;
-        durable = λ i d. subst (λ (s : Block). IsForced s i) (sym here) (f.durable i (durable-before insts me n m at c i (newest-same c) (ap (λ (t : ThreadState). t.durable) near.thread) d));
+        durable = λ i d. subst (λ (s : Block). IsForced s i) (sym here) (f.durable i (durable-before insts me n m at c i (newest-same c) near.durable d));
       }
 
   -- What an instance did with the block, as the protocol has it.
@@ -257,7 +259,7 @@ module _ (count steps blocks : ℕ) (links : List (List Packet)) (masters : Mast
         at_master = ap (λ (s : Block). s.place) it.led.here ∙ it.place ∙ f.at_master;
         only = only-after b f.master f.only;
         durable = λ i d. subst (λ (rs : List Record). AllByRecursion (λ redo. redo.maker ≡ i → redo.durable ≡ true) rs) (sym (ap (λ (s : Block). s.records) it.led.here ∙ it.records))
-            (f.durable i (durable-before insts me n m at b i (newest-same b) (ap (λ (t : ThreadState). t.durable) near.thread) d));
+            (f.durable i (durable-before insts me n m at b i (newest-same b) near.durable d));
       }
 
   -- all blocks play on

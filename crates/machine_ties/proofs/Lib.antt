@@ -14,3 +14,7 @@ pub mod Lacking
 pub mod Acting
 pub mod Writing
 pub mod Mastering
+pub mod First
+pub mod Quiet
+pub mod Forcing
+pub mod Asking

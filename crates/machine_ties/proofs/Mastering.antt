@@ -209,7 +209,8 @@ module _ (count steps blocks : ℕ) (core : Core) (insts : List Inst) (disk : Co
         paused = refl;
         leading = refl;
         newest = refl;
-        thread = refl;
+        durable = refl;
+        reaches = omega arith;
         cached = refl;
         numbers = λ are. are;
         sent = refl;

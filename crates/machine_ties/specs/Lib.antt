@@ -1,3 +1,4 @@
+pub mod HasUndo
 pub mod InstPlaces
 pub mod Plays
 pub mod Sane

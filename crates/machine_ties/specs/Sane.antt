@@ -8,6 +8,8 @@ use Rattle.wire_net.specs.declared.message.Unfound.{Unfound}
 use Rattle.wire_net.specs.declared.message.Unfound.TheVariants as unfound
 use Rattle.wire_net.specs.declared.message.Waiting.{Waiting}
 use Rattle.wire_net.specs.declared.message.Waiting.TheVariants as waiting
+use Rattle.wire_net.specs.declared.message.Lane.TheVariants.{Undo}
+use Rattle.wire_net.specs.Links.{lane_for, waiting_on}
 use Rattle.protocol_ties.specs.Messages.{want_of}
 use Rattle.protocol_ties.specs.Numbered.{IsPastNumbered}
 use Rattle.holder_ties.specs.Holders.{is_held}
@@ -46,6 +48,11 @@ AreSaneWaiting made queue = AllByRecursion (IsSaneWaiting made) queue
 abbrev pub IsSaneLink : (ℕ → ℕ) → List Packet → Type 0
 IsSaneLink made packets = AllByRecursion (λ (packet : Packet). IsSane made packet.message) packets
 
--- So is each on all links.
-abbrev pub AreSaneLinks : (ℕ → ℕ) → List (List Packet) → Type 0
-AreSaneLinks made links = AllByRecursion (IsSaneLink made) links
+-- On the lane of undo waits nothing else.
+abbrev pub IsUndo : Packet → Type 0
+IsUndo packet = lane_for packet.message ≡ Undo
+
+-- Each packet on all links is sane, and each on the lane of undo is undo.
+pub record AreSaneLinks (made : ℕ → ℕ) (links : List (List Packet)) : Type 0 where
+  pub messages : AllByRecursion (IsSaneLink made) links
+  pub undo : (from to : ℕ) → to < 8 → AllByRecursion IsUndo (waiting_on links from to Undo)

@@ -8,5 +8,6 @@
 mod steps;
 
 pub use steps::{
-    a_master_plays, a_master_stays_sane, steps_with_blocks_play, steps_with_images_play,
+    a_master_plays, a_master_stays_sane, quiet_steps_play, steps_with_blocks_play,
+    steps_with_images_play, steps_with_redo_play, the_first_world_plays,
 };
