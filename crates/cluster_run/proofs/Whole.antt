@@ -1,5 +1,5 @@
 -- A run of a script, and a creation, of their parts.
-use Rattle.std.proofs.Common.{◌≡◌, ℕ, ◌⊎◌, length, subst}
+use Rattle.std.proofs.Common.{◌≡◌, ℕ, ◌≤◌, ◌⊎◌, length, subst}
 use Rattle.base_types.specs.declared.layout.Layout.{Layout}
 use Rattle.rac_disk.specs.State.{State, WhereTold}
 use Rattle.script_text.specs.ScriptParts.{ScriptParts}
@@ -16,12 +16,13 @@ use Rattle.cluster_run.specs.Runs.{IsCreated, IsFinish, IsRunOf, step_limit}
 pub is_run_of : (script : ScriptParts) (it : ClusterRun) (first : World) (disk disk_now : State) (seed limit : ℕ) → seed ≡ script.settings.seed
     → limit ≡ step_limit script.lines → IsFirstWorld script first
     → IsRun (words seed) first disk it.ran.book it.ran.words it.world disk_now → IsStuck it.world ⊎ (length it.ran.book ≡ limit)
-    → IsFinish it.finish limit it.world it.ran.book → IsRunOf script it disk disk_now
-is_run_of script it first disk disk_now seed limit seed_is limit_is starts run ends finish = record {
+    → length it.ran.book ≤ limit → IsFinish it.finish limit it.world it.ran.book → IsRunOf script it disk disk_now
+is_run_of script it first disk disk_now seed limit seed_is limit_is starts run ends few finish = record {
   first = first;
   starts = starts;
   run = subst (λ (x : ℕ). IsRun (words x) first disk it.ran.book it.ran.words it.world disk_now) seed_is run;
   ends = subst (λ (x : ℕ). IsStuck it.world ⊎ (length it.ran.book ≡ x)) limit_is ends;
+  few = subst (λ (x : ℕ). length it.ran.book ≤ x) limit_is few;
   finish = subst (λ (x : ℕ). IsFinish it.finish x it.world it.ran.book) limit_is finish;
 }
 

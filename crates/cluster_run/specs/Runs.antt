@@ -1,5 +1,5 @@
 -- How a script is run over a database that is made anew.
-use Rattle.std.specs.Prelude.{◌≡◌, ℕ, ◌+◌, ◌*◌, ◌⊎◌, true, false, List, length}
+use Rattle.std.specs.Prelude.{◌≡◌, ℕ, ◌+◌, ◌*◌, ◌≤◌, ◌⊎◌, true, false, List, length}
 use Rattle.rac_disk.specs.State.{State, WhereTold}
 use Rattle.base_types.specs.declared.layout.Layout.{Layout}
 use Rattle.script_text.specs.ScriptParts.{ScriptParts}
@@ -34,6 +34,7 @@ pub record IsRunOf (script : ScriptParts) (it : ClusterRun) (disk disk_now : Sta
   pub starts : IsFirstWorld script first
   pub run : IsRun (words script.settings.seed) first disk it.ran.book it.ran.words it.world disk_now
   pub ends : IsStuck it.world ⊎ (length it.ran.book ≡ step_limit script.lines)
+  pub few : length it.ran.book ≤ step_limit script.lines
   pub finish : IsFinish it.finish (step_limit script.lines) it.world it.ran.book
 
 -- A database was made anew, as its calls went: the calls, what they left on the disk, and what was counted.

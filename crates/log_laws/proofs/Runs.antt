@@ -30,7 +30,9 @@ logs_after script g first disk created book h w disk_now run fit starts told new
 
 -- No log of the disk is one that no run leaves, once a script was run over a database made anew on a disk that tells what it holds.
 pub run_has_good_logs : (script : ScriptParts) (it : ClusterRun) (disk created disk_now : State) → IsWellFormed script → is_some disk.told ≡ true
-    → IsCreated (layout_of script) Whole disk created → IsRunOf script it created disk_now → length it.ran.book < 2 ^ 32 - 1 → IsSomeAnd disk_now.told HasGoodLogs
-run_has_good_logs script it disk created disk_now fit told new runs few =
+    → IsCreated (layout_of script) Whole disk created → IsRunOf script it created disk_now → IsSomeAnd disk_now.told HasGoodLogs
+run_has_good_logs script it disk created disk_now fit told new runs =
+    let lines = fit.lines_fit in
+    let few = runs.few in
     and_on (λ (c : Content). Logs (shared_of it.world.core) (map own_of it.world.insts) (files_of c)) HasGoodLogs disk_now.told (good_logs it.world)
-    (logs_after script (words script.settings.seed) runs.first disk created it.ran.book it.ran.words it.world disk_now runs.run fit runs.starts told new few)
+    (logs_after script (words script.settings.seed) runs.first disk created it.ran.book it.ran.words it.world disk_now runs.run fit runs.starts told new (omega (arith, lines, few)))

@@ -34,11 +34,10 @@ pub fn logs_stay_right()
         IsSomeAnd disk_now.told HasGoodLogs }
 {}
 
-/// A law: the same of a script's whole run.
+/// A law: the same of a script's whole run, whose steps the limit keeps few enough.
 pub fn a_run_leaves_good_logs()
     ensures { (script : ScriptParts) (it : ClusterRun) (disk created disk_now : State) → IsWellFormed script → is_some disk.told ≡ true →
-        IsCreated (layout_of script) Whole disk created → IsRunOf script it created disk_now → length it.ran.book < 2 ^ 32 - 1 →
-        IsSomeAnd disk_now.told HasGoodLogs }
+        IsCreated (layout_of script) Whole disk created → IsRunOf script it created disk_now → IsSomeAnd disk_now.told HasGoodLogs }
 {}
 
 /// A law: where a dead thread is read in such a run and told to be such as no run leaves it, that isn't for its log: its control entry

@@ -13,11 +13,11 @@ use Rattle.wire_net.specs.declared.entry.Holder.{Holder}
 use Rattle.wire_net.specs.declared.entry.PastHolder.{PastHolder}
 use Rattle.wire_net.specs.declared.entry.Operation.{Operation}
 use Rattle.wire_net.specs.declared.entry.Entry.{Entry}
-use Rattle.wire_net.specs.Entry.{version_of, with_version}
+use Rattle.wire_net.specs.Entry.{with_version}
 use Rattle.resource_dir.specs.Holders.{first_sharer, grant_after, has_other_sharer, is_granting, is_number, other_than, taken_out}
 use Rattle.resource_dir.specs.Taken.{Taken, and_then, queued, silent, telling, where_busy}
 use Rattle.resource_dir.specs.Asks.{answer, ask, cleared, go_on_as, go_on_if, is_clear, read_beside, serve, shared_from, stepped_out, written_beside}
-use Rattle.resource_dir.specs.Pasts.{answer_plea, is_newer, keep, keep_any, keep_any_newer, plead, write_please, wrote}
+use Rattle.resource_dir.specs.Pasts.{answer_plea, is_superseded, keep, keep_any, keep_any_newer, plead, write_please, wrote}
 use Rattle.resource_dir.specs.Ends.{ask_anew, done, done_as, done_if, ended, entered, gave_up, gone, hear_back}
 use Rattle.resource_dir.specs.Takes.{drain, drain_all, react, take_up, takes}
 
@@ -103,7 +103,7 @@ module _ (b : ℕ) where
 
   same-keep-newer : (past : Option PastHolder) (entry : Entry) → (keep_any_newer b past entry).entry.next_grant ≡ entry.next_grant
   same-keep-newer None entry = refl
-  same-keep-newer (Some past) entry = go (is_newer (version_of entry.past past.inst) past.version)
+  same-keep-newer (Some past) entry = go (is_superseded past entry)
     where
       go : (t : Bool) → (cond t (silent entry) (keep b past entry)).entry.next_grant ≡ entry.next_grant
       go true = refl

@@ -20,7 +20,7 @@ use Rattle.wire_net.specs.Entry.{grant_of, version_of, with_version}
 use Rattle.resource_dir.specs.Holders.{other_than, first_sharer, has_other_sharer, is_other_sharer, is_granting, is_number, taken_out}
 use Rattle.resource_dir.specs.Taken.{Taken, silent, telling, and_then, where_busy, queued}
 use Rattle.resource_dir.specs.Asks.{stepped_out, shared_from, read_beside, invalidates_to, cleared, written_beside, serve, answer, ask, is_clear, go_on_if, go_on_as}
-use Rattle.resource_dir.specs.Pasts.{is_newer, keep, keep_any, keep_any_newer, drops_to, wrote, plead, answer_plea, write_please}
+use Rattle.resource_dir.specs.Pasts.{is_superseded, keep, keep_any, keep_any_newer, drops_to, wrote, plead, answer_plea, write_please}
 use Rattle.resource_dir.specs.Ends.{gone, ended, entered, done_if, done_as, done, gave_up, ask_anew, hear_back}
 use Rattle.resource_dir.specs.Takes.{take_up, drain_all, drain, react, takes}
 use Rattle.resource_dir.proofs.DrainLemmas.{take_up-queue}
@@ -108,7 +108,7 @@ module _ (b : ℕ) (made : ℕ → ℕ) where
 
   sane-keep-newer : (past : Option PastHolder) (entry : Entry) → AreSane made (keep_any_newer b past entry).sends
   sane-keep-newer None entry = tt
-  sane-keep-newer (Some past) entry = go (is_newer (version_of entry.past past.inst) past.version)
+  sane-keep-newer (Some past) entry = go (is_superseded past entry)
     where
       go : (t : Bool) → AreSane made (cond t (silent entry) (keep b past entry)).sends
       go true = tt

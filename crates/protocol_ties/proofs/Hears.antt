@@ -8,10 +8,10 @@ use Rattle.wire_net.specs.declared.message.Message.TheVariants as messages
 use Rattle.wire_net.specs.declared.entry.PastHolder.{PastHolder}
 use Rattle.wire_net.specs.declared.entry.Operation.{Operation}
 use Rattle.wire_net.specs.declared.entry.Entry.{Entry}
-use Rattle.wire_net.specs.Entry.{grant_of, with_grant, no_grants, version_of, with_version}
+use Rattle.wire_net.specs.Entry.{grant_of, with_grant, no_grants, with_version}
 use Rattle.resource_dir.specs.Holders.{is_granting, is_number, taken_out}
 use Rattle.resource_dir.specs.Taken.{silent, telling}
-use Rattle.resource_dir.specs.Pasts.{is_newer, keep, keep_any, keep_any_newer}
+use Rattle.resource_dir.specs.Pasts.{is_superseded, keep, keep_any, keep_any_newer}
 use Rattle.resource_dir.specs.Ends.{gone, ended, entered, done_if, done_as, done, gave_up}
 use Rattle.block_protocol.specs.Block.{Shared, Exclusive, Hold, Want, Carrier, Done, Idle, Clears, Grants, Gone, GaveUp, Stale, Note, DropPast, Request, Block, put, without, Takes, Operation as ProtocolOperation, entered as entered_there}
 use Rattle.block_protocol.specs.Sound.{IsSettled, NoteFits, Sound}
@@ -135,7 +135,7 @@ module _ (wires : List Wire) (asks : List (ℕ × Want)) (b : ℕ) (entry : Entr
 
   pub keeps-newer : (past : Option PastHolder) → Goes wires asks (keep_any_newer b past entry) s
   keeps-newer None = nothing-done wires asks entry s tied bag queue room
-  keeps-newer (Some past) = go (is_newer (version_of entry.past past.inst) past.version)
+  keeps-newer (Some past) = go (is_superseded past entry)
     where
       go : (t : Bool) → Goes wires asks (cond t (silent entry) (keep b past entry)) s
       go true = nothing-done wires asks entry s tied bag queue room

@@ -11,11 +11,10 @@ use Rattle.wire_net.specs.declared.message.Message.TheVariants as messages
 use Rattle.wire_net.specs.declared.entry.PastHolder.{PastHolder}
 use Rattle.wire_net.specs.declared.entry.Operation.{Operation}
 use Rattle.wire_net.specs.declared.entry.Entry.{Entry}
-use Rattle.wire_net.specs.Entry.{version_of}
 use Rattle.resource_dir.specs.Holders.{is_granting, is_number}
 use Rattle.resource_dir.specs.Taken.{Taken}
 use Rattle.resource_dir.specs.Asks.{ask}
-use Rattle.resource_dir.specs.Pasts.{is_newer, wrote, keep, keep_any, keep_any_newer}
+use Rattle.resource_dir.specs.Pasts.{is_superseded, wrote, keep, keep_any, keep_any_newer}
 use Rattle.resource_dir.specs.Ends.{gone, gave_up, ended, entered, done, done_as, done_if, hear_back}
 use Rattle.resource_dir.specs.Takes.{react, drain, takes}
 use Rattle.block_protocol.specs.Block.{Shared, Exclusive, Want, Asks, Waits, Block, put, place_clock}
@@ -47,9 +46,9 @@ keep-queue b (Some past) entry = go (nat_le past.version entry.written) refl
 
 newer-queue : (b : ℕ) (past : Option PastHolder) (entry : Entry) → (keep_any_newer b past entry).entry.queue ≡ entry.queue
 newer-queue b None entry = refl
-newer-queue b (Some past) entry = go (is_newer (version_of entry.past past.inst) past.version) refl
+newer-queue b (Some past) entry = go (is_superseded past entry) refl
   where
-    go : (t : Bool) → is_newer (version_of entry.past past.inst) past.version ≡ t → (keep_any_newer b (Some past) entry).entry.queue ≡ entry.queue
+    go : (t : Bool) → is_superseded past entry ≡ t → (keep_any_newer b (Some past) entry).entry.queue ≡ entry.queue
     go true is = rw is refl
     go false is = rw is (keep-queue b (Some past) entry)
 

@@ -51,11 +51,15 @@ block_after (Some change) scn b = if change.block == b.front.number then block_c
 abbrev pub block_rolled_by : Redo → BlockContent → Option BlockContent
 block_rolled_by redo b = block_after redo.row redo.scn b
 
+-- A change of a header by a record with this SCN can be made: it leaves a header.
+abbrev pub can_change_head : HeadChange → ℕ → Bool
+can_change_head change scn = nat_lt change.slot 8 && (nat_le 1 change.next && (nat_le 1 scn && is_txn_slot change.to))
+
 -- A header after a change of it by a record with this SCN, as for a data block.
 abbrev pub header_changed : HeadChange → ℕ → HeaderContent → Option HeaderContent
 header_changed change scn h =
     if nat_le change.version h.front.version then Some h
-    else if is_next h.front.version change.version && (nat_lt change.slot 8 && (nat_le 1 change.next && (nat_le 1 scn && is_txn_slot change.to)))
+    else if is_next h.front.version change.version && can_change_head change scn
     then Some (with_slot h change.slot change.to change.next scn)
     else None
 
@@ -63,11 +67,15 @@ header_changed change scn h =
 abbrev pub header_rolled_by : Redo → HeaderContent → Option HeaderContent
 header_rolled_by redo h = if redo.head.block == h.front.number then header_changed redo.head redo.scn h else Some h
 
+-- A change of an undo block by a record with this SCN can be made: it leaves an undo block.
+abbrev pub can_change_undo : UndoChange → ℕ → Bool
+can_change_undo change scn = nat_lt change.place 4 && (nat_le 1 scn && is_undo_record change.to)
+
 -- An undo block after a change of it by a record with this SCN, as for a data block.
 abbrev pub undo_changed : UndoChange → ℕ → UndoContent → Option UndoContent
 undo_changed change scn u =
     if nat_le change.version u.front.version then Some u
-    else if is_next u.front.version change.version && (nat_lt change.place 4 && (nat_le 1 scn && is_undo_record change.to))
+    else if is_next u.front.version change.version && can_change_undo change scn
     then Some (with_record u change.place change.to scn)
     else None
 
@@ -85,23 +93,60 @@ abbrev pub rolled : {B : Type 0} → (Redo → B → Option B) → List Tagged �
 rolled by [] b = Some b
 rolled by (it ∷ its) b = option_and_then (rolled by its) (by it.redo b)
 
--- a data block after a change of some data block, if there is one
-abbrev pub applied_if : BlockContent → Option DataChange → ℕ → BlockContent
-applied_if b None scn = b
-applied_if b (Some change) scn = applied b change.to scn
+-- a data block after a change of some data block, if there is one and it is of this block
+abbrev pub block_applied_if : Option DataChange → ℕ → BlockContent → BlockContent
+block_applied_if None scn b = b
+block_applied_if (Some change) scn b = if change.block == b.front.number then applied b change.to scn else b
 
--- a data block after the changes of records, one applied after the other
-abbrev pub all_applied : BlockContent → List Tagged → BlockContent
-all_applied b [] = b
-all_applied b (it ∷ its) = all_applied (applied_if b it.redo.row it.redo.scn) its
+-- a data block after what a record changes of it
+abbrev pub block_applied : Redo → BlockContent → BlockContent
+block_applied redo b = block_applied_if redo.row redo.scn b
 
--- A change is one of this data block, of the next version, and can be made.
-abbrev pub IsNextChange : BlockContent → Option DataChange → ℕ → Type 0
-IsNextChange b None scn = ⊥
-IsNextChange b (Some change) scn =
-    (change.block ≡ b.front.number) × (is_next b.front.version change.version ≡ true) × (can_change b change.to scn ≡ true)
+-- A change of some data block, if there is one and it is of this block, is of the next version and can be made.
+abbrev pub IsNextIfData : Option DataChange → ℕ → BlockContent → Type 0
+IsNextIfData None scn b = Unit {0}
+IsNextIfData (Some change) scn b =
+    change.block ≡ b.front.number → (is_next b.front.version change.version ≡ true) × (can_change b change.to scn ≡ true)
 
--- Records change a data block one after the other, each from the version before.
-abbrev pub AreNext : BlockContent → List Tagged → Type 0
-AreNext b [] = Unit {0}
-AreNext b (it ∷ its) = IsNextChange b it.redo.row it.redo.scn × AreNext (applied_if b it.redo.row it.redo.scn) its
+-- What a record changes of a data block is of the next version and can be made.
+abbrev pub IsNextData : Redo → BlockContent → Type 0
+IsNextData redo b = IsNextIfData redo.row redo.scn b
+
+-- a header after what a record changes of it
+abbrev pub header_applied : Redo → HeaderContent → HeaderContent
+header_applied redo h =
+    if redo.head.block == h.front.number then with_slot h redo.head.slot redo.head.to redo.head.next redo.scn else h
+
+-- What a record changes of a header is of the next version and can be made.
+abbrev pub IsNextHead : Redo → HeaderContent → Type 0
+IsNextHead redo h =
+    redo.head.block ≡ h.front.number → (is_next h.front.version redo.head.version ≡ true) × (can_change_head redo.head redo.scn ≡ true)
+
+-- an undo block after a change of some undo block, if there is one and it is of this block
+abbrev pub undo_applied_if : Option UndoChange → ℕ → UndoContent → UndoContent
+undo_applied_if None scn u = u
+undo_applied_if (Some change) scn u = if change.block == u.front.number then with_record u change.place change.to scn else u
+
+-- an undo block after what a record changes of it
+abbrev pub undo_applied : Redo → UndoContent → UndoContent
+undo_applied redo u = undo_applied_if redo.undo redo.scn u
+
+-- A change of some undo block, if there is one and it is of this block, is of the next version and can be made.
+abbrev pub IsNextIfUndo : Option UndoChange → ℕ → UndoContent → Type 0
+IsNextIfUndo None scn u = Unit {0}
+IsNextIfUndo (Some change) scn u =
+    change.block ≡ u.front.number → (is_next u.front.version change.version ≡ true) × (can_change_undo change scn ≡ true)
+
+-- What a record changes of an undo block is of the next version and can be made.
+abbrev pub IsNextUndo : Redo → UndoContent → Type 0
+IsNextUndo redo u = IsNextIfUndo redo.undo redo.scn u
+
+-- a block after records, what each of them changes of it applied one after the other
+abbrev pub all_applied : {B : Type 0} → (Redo → B → B) → List Tagged → B → B
+all_applied by [] b = b
+all_applied by (it ∷ its) b = all_applied by its (by it.redo b)
+
+-- What records change of a block comes next, each from the version that those before it leave.
+abbrev pub AreNext : {B : Type 0} → (Redo → B → Type 0) → (Redo → B → B) → List Tagged → B → Type 0
+AreNext is by [] b = Unit {0}
+AreNext is by (it ∷ its) b = is it.redo b × AreNext is by its (by it.redo b)

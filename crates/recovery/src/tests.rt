@@ -213,6 +213,15 @@ fn what_is_to_be_rebuilt(rt: HostRuntime) -> Result<(), Fail> {
         let is = is_to_recover(&LAYOUT, &reports, &lost, BlockNo(block), disk);
         assert_eq!(rt; is, expected);
     }
+    // all of them, where the disk has no record, and where it has that of the data block
+    let mut disk = [0; 67];
+    let blocks = blocks_to_recover(rt.alloc(), &LAYOUT, &reports, &lost, &disk)?;
+    let expected = [BlockNo(1), BlockNo(3), BlockNo(64), BlockNo(65)];
+    assert_eq!(rt; blocks.as_slice(), expected.as_slice());
+    disk[3] = 3;
+    let blocks = blocks_to_recover(rt.alloc(), &LAYOUT, &reports, &lost, &disk)?;
+    let expected = [BlockNo(1), BlockNo(64), BlockNo(65)];
+    assert_eq!(rt; blocks.as_slice(), expected.as_slice());
     assert_eq!(rt; reports.newest_past_of(BlockNo(1)), Some(InstNo(5)));
     reports.clear();
     assert!(rt; !reports.is_held(BlockNo(2)));

@@ -15,11 +15,10 @@ use Rattle.wire_net.specs.declared.entry.PastHolder.{PastHolder}
 use Rattle.wire_net.specs.declared.entry.Operation.{Operation}
 use Rattle.wire_net.specs.declared.entry.Entry.{Entry}
 use Rattle.inst_set.specs.Sets.{all_insts, is_empty}
-use Rattle.wire_net.specs.Entry.{version_of}
 use Rattle.resource_dir.specs.Holders.{first_sharer, has_other_sharer, is_granting, is_number, is_other_sharer, other_sharers, other_than, taken_out}
 use Rattle.resource_dir.specs.Taken.{Taken, silent, and_then, where_busy, queued}
 use Rattle.resource_dir.specs.Asks.{answer, ask, cleared, go_on, go_on_as, go_on_if, is_clear, read_beside, serve, shared_from, stepped_out, written_beside}
-use Rattle.resource_dir.specs.Pasts.{answer_plea, is_newer, keep, keep_any, keep_any_newer, keep_newer, plead, write_please}
+use Rattle.resource_dir.specs.Pasts.{answer_plea, is_superseded, keep, keep_any, keep_any_newer, keep_newer, plead, write_please}
 use Rattle.resource_dir.specs.Ends.{ask_anew, done_as, done_if, ended, entered, gave_up, gone, hear_back}
 use Rattle.resource_dir.specs.Takes.{drain_all, hear_plea, react, take_up, takes}
 use Rattle.resource_dir.specs.Laws.{IsHeldUp, WaitsFor}
@@ -121,7 +120,7 @@ held-keep_any_newer : (block : ℕ) (kept : Option PastHolder) (entry : Entry) �
     → IsHeldUp (keep_any_newer block kept entry).entry.op
 held-keep_any_newer block None entry up = up
 held-keep_any_newer block (Some kept) entry up =
-    held-if (is_newer (version_of entry.past kept.inst) kept.version) (silent entry) (keep block kept entry) up (held-keep block kept entry up)
+    held-if (is_superseded kept entry) (silent entry) (keep block kept entry) up (held-keep block kept entry up)
 
 held-plead : (x : Option Holder) (block version holder : ℕ) (entry : Entry) → IsHeldUp entry.op
     → IsHeldUp (plead x block version holder entry).entry.op

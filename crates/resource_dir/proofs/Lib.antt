@@ -1,3 +1,4 @@
+pub mod Anew
 pub mod DrainLemmas
 pub mod HeldUp
 pub mod Sends

@@ -1,5 +1,5 @@
 -- What a master does with what it hears of past images and of writes.
-use Rattle.std.specs.Prelude.{ℕ, nat_le, nat_lt, if◌then◌else◌, Bool, false, List, [], ◌∷◌, flat_map, max, Option, None, Some}
+use Rattle.std.specs.Prelude.{ℕ, nat_le, nat_lt, ◌&&◌, if◌then◌else◌, Bool, false, List, [], ◌∷◌, flat_map, max, Option, None, Some}
 use Rattle.wire_net.specs.declared.message.Message.{Message}
 use Rattle.wire_net.specs.declared.message.Message.TheVariants.{DropPast, WritePlease}
 use Rattle.wire_net.specs.declared.message.Waiting.TheVariants as waiting
@@ -16,15 +16,19 @@ abbrev pub is_newer : Option ℕ → ℕ → Bool
 is_newer None other = false
 is_newer (Some version) other = nat_lt other version
 
+-- whether a past image isn't known to be written, and its instance is known to keep a newer one
+abbrev pub is_superseded : PastHolder → Entry → Bool
+is_superseded kept entry = nat_lt entry.written kept.version && is_newer (version_of entry.past kept.inst) kept.version
+
 -- a past image is known to be kept, in the place of one of the same instance; one that was written may go at once
 abbrev pub keep : ℕ → PastHolder → Entry → Taken
 keep block kept entry = if nat_le kept.version entry.written
     then telling entry kept.inst (DropPast block kept.version)
     else silent (record entry { past = with_version entry.past kept.inst (Some kept.version) })
 
--- the same, but where the instance is known to keep a newer one
+-- the same, but nothing is to be done with one that is superseded
 abbrev pub keep_newer : ℕ → PastHolder → Entry → Taken
-keep_newer block kept entry = if is_newer (version_of entry.past kept.inst) kept.version then silent entry else keep block kept entry
+keep_newer block kept entry = if is_superseded kept entry then silent entry else keep block kept entry
 
 -- a past image of a Done, if there is one
 abbrev pub keep_any : ℕ → Option PastHolder → Entry → Taken

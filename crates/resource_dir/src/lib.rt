@@ -6,6 +6,7 @@ mod asks;
 mod directory;
 mod ends;
 mod holders;
+mod laws;
 mod pasts;
 mod reported;
 mod takes;
@@ -14,6 +15,7 @@ mod tests;
 
 use base_types::InstNo;
 pub use directory::{Directory, a_bucket_moves_whole};
+pub use laws::a_new_entry_has_no_operation;
 pub use reported::{rebuild, rebuilt};
 pub use takes::{an_operation_is_held_up, messages_wait_for_an_operation, take};
 use wire_net::{Fifo, Message};

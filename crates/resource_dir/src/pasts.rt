@@ -3,7 +3,7 @@
 ghost use Rattle.std.specs.Prelude.{◌≡◌, ◌++◌, OnOk};
 ghost use Rattle.std.specs.List.{flat_map};
 ghost use Rattle.wire_net.specs.Entry.{version_of};
-ghost use Rattle.resource_dir.specs.Pasts.{answer_plea, drops_to, is_newer, keep, keep_any, keep_any_newer, plead, write_please, wrote};
+ghost use Rattle.resource_dir.specs.Pasts.{answer_plea, drops_to, is_newer, is_superseded, keep, keep_any, keep_any_newer, plead, write_please, wrote};
 
 use crate::Outbox;
 use base_types::{BlockNo, InstNo, NoMemory};
@@ -18,6 +18,13 @@ fn is_newer(version: Option<u64>, other: u64) -> bool
         Some(version) => version > other,
         None => false,
     }
+}
+
+// Whether a past image isn't known to be written, and its instance is known to keep a newer one.
+fn is_superseded(entry: &Entry, kept: &PastHolder) -> bool
+    ensures { result ≡ is_superseded kept.now entry.now }
+{
+    kept.version > entry.written && is_newer(entry.past.get(kept.inst), kept.version)
 }
 
 // Enters a past image that is kept, or lets it go where its version was written.
@@ -67,7 +74,7 @@ pub fn keep_any_newer(
     let Some(kept) = kept else {
         return Ok(());
     };
-    if is_newer(entry.past.get(kept.inst), kept.version) {
+    if is_superseded(entry, kept) {
         return Ok(());
     }
     keep(entry, block, kept, out)

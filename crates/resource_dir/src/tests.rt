@@ -486,6 +486,19 @@ fn past_images_go_once_they_are_written(rt: HostRuntime) -> Result<(), Fail> {
             "x3@3 p1v8 w7 n4 q0",
         ),
         (
+            Message::Done {
+                block: BLOCK,
+                grant: 8,
+                mode: Mode::Exclusive,
+                past: Some(PastHolder {
+                    inst: InstNo(1),
+                    version: 7,
+                }),
+            },
+            "1 DropPast { block: BlockNo(5), version: 7 }; ",
+            "x3@3 p1v8 w7 n4 q0",
+        ),
+        (
             Message::GaveUp {
                 block: BLOCK,
                 grant: 3,
@@ -626,6 +639,231 @@ fn messages_that_found_no_image_are_taken_again(rt: HostRuntime) -> Result<(), F
     ] {
         expect_step(&rt, alloc, &mut entry, &message, sent, after)?;
     }
+    Ok(())
+}
+
+// An entry with an exclusive holder, 1.
+fn held_alone(alloc: Global) -> Entry {
+    let mut entry = Entry::new(alloc);
+    entry.x = Some(Holder {
+        inst: InstNo(1),
+        grant: 1,
+    });
+    entry.next_grant = 2;
+    entry
+}
+
+// An entry with two that share the block, 1 and 2.
+fn held_by_two(alloc: Global) -> Entry {
+    let mut entry = Entry::new(alloc);
+    entry.shared.set(InstNo(1), Some(1));
+    entry.shared.set(InstNo(2), Some(2));
+    entry.next_grant = 3;
+    entry
+}
+
+fn ask(mode: Mode, held: Mode, asker: u8) -> Message {
+    Message::Ask {
+        block: BLOCK,
+        mode,
+        held,
+        asker: InstNo(asker),
+    }
+}
+
+fn gone(grant: u64) -> Message {
+    Message::Gone {
+        block: BLOCK,
+        grant,
+    }
+}
+
+fn gave_up(grant: u64) -> Message {
+    Message::GaveUp {
+        block: BLOCK,
+        grant,
+    }
+}
+
+// A Done of an exclusive grant, without a past image.
+fn done(grant: u64) -> Message {
+    Message::Done {
+        block: BLOCK,
+        grant,
+        mode: Mode::Exclusive,
+        past: None,
+    }
+}
+
+fn wrote(version: u64) -> Message {
+    Message::Wrote {
+        block: BLOCK,
+        version,
+    }
+}
+
+fn write_please(version: u64, holder: u8) -> Message {
+    Message::WritePlease {
+        block: BLOCK,
+        version,
+        holder: InstNo(holder),
+        grant: None,
+    }
+}
+
+#[test]
+fn messages_during_an_operation(rt: HostRuntime) -> Result<(), Fail> {
+    let alloc = rt.alloc();
+    let mut entry = held_by_two(alloc);
+    entry.past.set(InstNo(4), Some(2));
+    let back = Message::Back(Unfound::CopyTo {
+        block: BLOCK,
+        grant: 9,
+        reader: InstNo(3),
+    });
+    for (message, sent, after) in [
+        (
+            ask(Mode::Exclusive, Mode::Null, 4),
+            "1 Invalidate { block: BlockNo(5), grant: 1 }; 2 Invalidate { block: BlockNo(5), grant: 2 }; ",
+            "s1@1 s2@2 p4v2 w0 n3 op4 Exclusive None waits1 waits2 q0",
+        ),
+        (
+            ask(Mode::Exclusive, Mode::Null, 5),
+            "",
+            "s1@1 s2@2 p4v2 w0 n3 op4 Exclusive None waits1 waits2 q1",
+        ),
+        (
+            back,
+            "",
+            "s1@1 s2@2 p4v2 w0 n3 op4 Exclusive None waits1 waits2 q2",
+        ),
+        (
+            gave_up(9),
+            "",
+            "s1@1 s2@2 p4v2 w0 n3 op4 Exclusive None waits1 waits2 q2",
+        ),
+        (
+            wrote(6),
+            "4 DropPast { block: BlockNo(5), version: 2 }; ",
+            "s1@1 s2@2 w6 n3 op4 Exclusive None waits1 waits2 q2",
+        ),
+        (
+            write_please(6, 5),
+            "5 DropPast { block: BlockNo(5), version: 6 }; ",
+            "s1@1 s2@2 w6 n3 op4 Exclusive None waits1 waits2 q2",
+        ),
+        (gone(1), "", "s2@2 w6 n3 op4 Exclusive None waits2 q2"),
+        (
+            gone(2),
+            "4 Grant { block: BlockNo(5), grant: 3, mode: Exclusive, from_disk: true }; ",
+            "w6 n4 op4 Exclusive Some(3) q2",
+        ),
+        (
+            done(3),
+            "4 ShipTo { block: BlockNo(5), grant: 3, new_grant: 4, asker: InstNo(5) }; ",
+            "x4@3 w6 n5 op5 Exclusive Some(4) q1",
+        ),
+        (
+            done(4),
+            "5 CopyTo { block: BlockNo(5), grant: 4, reader: InstNo(3) }; ",
+            "x5@4 w6 n5 q0",
+        ),
+    ] {
+        expect_step(&rt, alloc, &mut entry, &message, sent, after)?;
+    }
+    Ok(())
+}
+
+#[test]
+fn messages_to_an_empty_entry(rt: HostRuntime) -> Result<(), Fail> {
+    let alloc = rt.alloc();
+    let mut entry = Entry::new(alloc);
+    let drops = Message::DropPast {
+        block: BLOCK,
+        version: 2,
+    };
+    let copies = Message::CopyTo {
+        block: BLOCK,
+        grant: 1,
+        reader: InstNo(3),
+    };
+    for (message, sent, after) in [
+        (gone(9), "", "w0 n1 q0"),
+        (gave_up(9), "", "w0 n1 q0"),
+        (done(9), "", "w0 n1 q0"),
+        (drops, "", "w0 n1 q0"),
+        (copies, "", "w0 n1 q0"),
+        (wrote(3), "", "w3 n1 q0"),
+    ] {
+        expect_step(&rt, alloc, &mut entry, &message, sent, after)?;
+    }
+    Ok(())
+}
+
+#[test]
+fn messages_to_a_block_that_one_holds_alone(rt: HostRuntime) -> Result<(), Fail> {
+    let alloc = rt.alloc();
+    let mut entry = held_alone(alloc);
+    let ships = Message::Back(Unfound::ShipTo {
+        block: BLOCK,
+        grant: 9,
+        new_grant: 2,
+        asker: InstNo(5),
+    });
+    let shares = Message::Back(Unfound::ShareTo {
+        block: BLOCK,
+        grant: 9,
+        new_grant: 2,
+        asker: InstNo(5),
+    });
+    for (message, sent, after) in [
+        (gone(9), "", "x1@1 w0 n2 q0"),
+        (gave_up(9), "", "x1@1 w0 n2 q0"),
+        (ships, "", "x1@1 w0 n2 q0"),
+        (shares, "", "x1@1 w0 n2 q0"),
+        (
+            write_please(4, 4),
+            "1 WritePlease { block: BlockNo(5), version: 4, holder: InstNo(4), grant: Some(1) }; ",
+            "x1@1 w0 n2 q0",
+        ),
+    ] {
+        expect_step(&rt, alloc, &mut entry, &message, sent, after)?;
+    }
+    Ok(())
+}
+
+#[test]
+fn messages_to_a_block_that_two_share(rt: HostRuntime) -> Result<(), Fail> {
+    let alloc = rt.alloc();
+    let mut entry = held_by_two(alloc);
+    for (message, sent, after) in [
+        (done(9), "", "s1@1 s2@2 w0 n3 q0"),
+        (
+            write_please(6, 5),
+            "5 DropPast { block: BlockNo(5), version: 6 }; ",
+            "s1@1 s2@2 w6 n3 q0",
+        ),
+        (gave_up(2), "", "s1@1 w6 n3 q0"),
+        (
+            ask(Mode::Exclusive, Mode::Shared, 1),
+            "1 Grant { block: BlockNo(5), grant: 3, mode: Exclusive, from_disk: false }; ",
+            "s1@1 w6 n4 op1 Exclusive Some(3) q0",
+        ),
+    ] {
+        expect_step(&rt, alloc, &mut entry, &message, sent, after)?;
+    }
+    let mut entry = held_by_two(alloc);
+    entry.past.set(InstNo(4), Some(2));
+    let sent = "4 DropPast { block: BlockNo(5), version: 2 }; ";
+    expect_step(
+        &rt,
+        alloc,
+        &mut entry,
+        &wrote(3),
+        sent,
+        "s1@1 s2@2 w3 n3 q0",
+    )?;
+    expect_step(&rt, alloc, &mut entry, &gone(2), "", "s1@1 w3 n3 q0")?;
     Ok(())
 }
 

@@ -1,4 +1,4 @@
-ghost use Rattle.std.specs.Prelude.{◌≡◌, ◌⊎◌, [], length, IfOk, IfSome, IfNone};
+ghost use Rattle.std.specs.Prelude.{◌≡◌, ◌≤◌, ◌⊎◌, [], length, IfOk, IfSome, IfNone};
 ghost use Rattle.world_machine.specs.Machine.{W};
 ghost use Rattle.world_machine.specs.Runs.{IsPicked, IsRun, IsStuck, words};
 
@@ -74,6 +74,7 @@ pub fn run<D: SharedDisk, O: Observer>(
 ) -> Result<Ran, NoMemory>
     ensures run { IfOk result (λ ran. IsRun (words seed) world.old (D.state disk.old) ran.book ran.words world.new (D.state disk.new)) }
     ensures ends { IfOk result (λ ran. IsStuck world.new ⊎ (length ran.book ≡ limit)) }
+    ensures few { IfOk result (λ ran. length ran.book ≤ limit) }
 {
     let mut words = Lcg64Xsh32::new(seed, 1);
     let mut book = Sequence::new(alloc);

@@ -9,4 +9,4 @@ returns g c =
     let seed_is = ap (λ (it : Settings). it.seed) c.settings-seed.ensures in
     let ran = c.in_ok-ran.ensures in
     is_run_of c.args.script.now (record { world = c.run.new.world; ran = c.in_ok-ran.ran; finish = c.finish_of-finish.result }) c.args.first
-    (state c.args.disk.now) (state c.run.new.disk) _ _ seed_is c.step_limit-limit.ensures c.requires ran.run ran.ends c.finish_of-finish.ensures
+    (state c.args.disk.now) (state c.run.new.disk) _ _ seed_is c.step_limit-limit.ensures c.requires ran.run ran.ends ran.few c.finish_of-finish.ensures

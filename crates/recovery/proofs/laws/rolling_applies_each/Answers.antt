@@ -1,5 +1,5 @@
-use Rattle.recovery.proofs.Rolling.{rolled-next}
+use Rattle.recovery.proofs.Rolling.{rolled-blocks, rolled-headers, rolled-undo}
 use Rattle.recovery.proofs.laws.rolling_applies_each.Goals as goal
 
 pub returns : goal.returns
-returns c = rolled-next
+returns c = record { block = rolled-blocks; header = rolled-headers; undo = rolled-undo }
