@@ -1,7 +1,7 @@
 -- What an instance has of a data block, and what becomes of it.
 use Rattle.std.specs.Prelude.{◌≡◌, ℕ, ◌+◌, ◌-◌, ◌≤◌, ◌<◌, ◌^◌, ◌==◌, Bool, true, false, not, ◌||◌, ◌&&◌, List, ◌++◌, Option, Some, None, is_some, unwrap_or, option_map, nat_le}
 use Rattle.std.specs.Bool.{if◌then◌else◌}
-use Rattle.std.specs.Option.{option_and_then, option_to_list}
+use Rattle.std.specs.Option.{option_and_then, option_or, option_to_list}
 use Rattle.base_types.specs.declared.names.RedoAt.{RedoAt}
 use Rattle.base_types.specs.declared.names.Scn.{Scn}
 use Rattle.redo_types.specs.declared.blocks.RowChange.{RowChange}
@@ -68,9 +68,18 @@ holds_clean (Some now) = not now.dirty
 abbrev pub with_ask : Option Mode → Place → Place
 with_ask mode place = record place { asked = mode }
 
--- A current image came: the reservation and the past image go.
+-- the place of the first own record that may be missing in the disk's image, as the past image has it
+abbrev pub past_mine : Option PastImage → Option RedoAt
+past_mine past = option_and_then (λ past. past.mine) past
+
+-- An image that the disk lacks, and with it those own records from this place on.
+abbrev pub lacking : Option RedoAt → Current → Current
+lacking first now = record now { mine = if now.dirty then option_or now.mine first else now.mine }
+
+-- A current image came: the reservation and the past image go. Where the disk lacks the image, it lacks the own records of the past image still.
 abbrev pub with_current : Option Current → Place → Place
-with_current current place = record place { current = current; past = None; asked = None }
+with_current current place =
+    record place { current = option_map (lacking (past_mine place.past)) current; past = None; asked = None }
 
 -- the image of a shipment, as it is held then
 abbrev pub shipped : Shipment → Current

@@ -1,6 +1,6 @@
 ghost use Rattle.std.specs.Prelude.{◌≡◌, ◌≤◌, Some, None, fold, min, option_map, option_copied};
 ghost use Rattle.std.specs.Option.{ForSome, option_and_then, option_to_list};
-ghost use Rattle.buffer_cache.specs.Place.{CanChange, changed, clean_grant, empty_place, forgotten, frames_of, given_up, held_of, holds_clean, holds_dirty, holds_shared, is_marked, marked, mine_of, read_from_disk, regranted, shareable, shipped, upgraded, with_change, with_current, with_written, without_clean, without_grant, without_past, written};
+ghost use Rattle.buffer_cache.specs.Place.{CanChange, changed, clean_grant, empty_place, forgotten, frames_of, given_up, held_of, holds_clean, holds_dirty, holds_shared, is_marked, lacking, marked, mine_of, read_from_disk, regranted, shareable, shipped, upgraded, with_change, with_current, with_written, without_clean, without_grant, without_past, written};
 
 use base_types::{RedoAt, Scn};
 use block_image::{DataBlock, RowChange};
@@ -117,6 +117,14 @@ impl Current {
             self.image.apply(change, scn);
             self.dirty = true;
             self.mine = Some(self.mine.unwrap_or(at));
+        }
+    }
+
+    fn lack(&mut self, first: Option<RedoAt>)
+        ensures { self.new ≡ lacking first self.old }
+    {
+        if self.dirty {
+            self.mine = self.mine.or(first);
         }
     }
 
@@ -240,8 +248,7 @@ impl Place {
         ensures { self.new ≡ with_current current self.old }
     {
         self.current = current;
-        self.past = None;
-        self.asked = None;
+        self.settle();
     }
 
     pub(crate) fn upgrade(&mut self, grant: u64)
@@ -250,6 +257,17 @@ impl Place {
         if let Some(now) = &mut self.current {
             now.mode = Mode::Exclusive;
             now.grant = grant;
+        }
+        self.settle();
+    }
+
+    /// The current image stands for the past one from now on, and for the reservation.
+    fn settle(&mut self)
+        ensures { self.new ≡ with_current self.old.current self.old }
+    {
+        let first = self.past_mine();
+        if let Some(now) = &mut self.current {
+            now.lack(first);
         }
         self.past = None;
         self.asked = None;
