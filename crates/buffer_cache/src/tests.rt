@@ -298,6 +298,21 @@ fn the_position_is_below_each_own_record(rt: HostRuntime) -> Result<(), Fail> {
 }
 
 #[test]
+fn a_block_that_comes_back_keeps_its_first_record(rt: HostRuntime) -> Result<(), Fail> {
+    let durable = RedoAt(200);
+    let table = [(true, Some(RedoAt(90)), RedoAt(90)), (false, None, durable)];
+    for (dirty, mine, position) in table {
+        let mut cache = BufferCache::new(rt.alloc(), 4, 8).ok().ok_or("memory")?;
+        hold_changed(&mut cache, FIRST, RedoAt(90), RedoAt(95));
+        let _ = cache.give_up(FIRST);
+        cache.install(shipment(2, false, dirty));
+        assert_eq!(rt; cache.held(FIRST).and_then(|held| held.mine), mine);
+        assert_eq!(rt; cache.position(None, durable), position);
+    }
+    Ok(())
+}
+
+#[test]
 fn a_report_forgets(rt: HostRuntime) -> Result<(), Fail> {
     let mut cache = BufferCache::new(rt.alloc(), 4, 8).ok().ok_or("memory")?;
     hold_changed(&mut cache, FIRST, RedoAt(90), RedoAt(95));

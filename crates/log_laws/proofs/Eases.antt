@@ -2,7 +2,7 @@
 use Rattle.std.proofs.Common.{◌≡◌, ℕ, Bool, true, false, List, [], ◌++◌, length, Option, None, Some, slice_get, if◌then◌else◌, refl, sym, ap, subst}
 use Rattle.std.proofs.lemmas.List.{length-set}
 use Rattle.std.specs.List.{AllByRecursion, flat_map}
-use Rattle.std.specs.Option.{option_and_then, option_map, option_to_list}
+use Rattle.std.specs.Option.{option_and_then, option_map, option_or, option_to_list}
 use Rattle.wire_net.specs.declared.message.Message.{Message}
 use Rattle.wire_net.specs.declared.message.Message.TheVariants.{Copy, UndoIs}
 use Rattle.wire_net.specs.declared.message.Mode.{Mode}
@@ -11,7 +11,7 @@ use Rattle.block_image.specs.Block.{BlockContent}
 use Rattle.buffer_cache.specs.declared.place.Current.{Current}
 use Rattle.buffer_cache.specs.declared.place.Place.{Place}
 use Rattle.buffer_cache.specs.Cache.{at_place, place_at, with_copy_used}
-use Rattle.buffer_cache.specs.Place.{given_up, holds_dirty, mine_of, read_from_disk, shipped as shipped_image, upgraded, with_ask, with_current, with_past_asked, with_wish, with_written, without_clean, without_grant, without_past}
+use Rattle.buffer_cache.specs.Place.{given_up, holds_dirty, lacking, mine_of, past_mine, read_from_disk, shipped as shipped_image, upgraded, with_ask, with_current, with_past_asked, with_wish, with_written, without_clean, without_grant, without_past}
 use Rattle.inst_state.specs.declared.inst.Inst.{Inst}
 use Rattle.inst_state.specs.declared.shared.Core.{Core}
 use Rattle.inst_state.specs.Needs.{needed}
@@ -130,8 +130,24 @@ image_eases : (k : Inst) (block : ℕ) (current : Option Current)
     → Eased k (with_image k block current)
 image_eases k block current kept = cache_eases k (with_image k block current) refl refl (λ P a. place_more P (with_current current) k.cache block (kept P) a)
 
+-- an image that came lacks no record but its own and those of the past image
+lacks : (P : ℕ → Type 0) (first : Option ℕ) (now : Current) → AllByRecursion P (option_to_list now.mine) → AllByRecursion P (option_to_list first)
+    → AllByRecursion P (option_to_list (lacking first now).mine)
+lacks P first now own past = by now.dirty now.mine own
+  where
+    by : (dirty : Bool) (mine : Option ℕ) → AllByRecursion P (option_to_list mine) → AllByRecursion P (option_to_list (if dirty then option_or mine first else mine))
+    by true None own = past
+    by true (Some at) own = own
+    by false mine own = own
+
 pub shipped_eases : (k : Inst) (shipment : Shipment) → Eased k (with_image k shipment.block (Some (shipped_image shipment)))
-shipped_eases k shipment = image_eases k shipment.block (Some (shipped_image shipment)) (λ P a. tt)
+shipped_eases k shipment = image_eases k shipment.block (Some (shipped_image shipment)) (λ P a. by P (place_at k.cache shipment.block) a)
+  where
+    by : (P : ℕ → Type 0) (place : Place) → AllByRecursion P (mine_of place) → AllByRecursion P (mine_of (with_current (Some (shipped_image shipment)) place))
+    by P place a =
+        all_both P (option_to_list (lacking (past_mine place.past) (shipped_image shipment)).mine) []
+        (lacks P (past_mine place.past) (shipped_image shipment) tt
+        (all_behind P (option_to_list (option_and_then (λ now. now.mine) place.current)) (option_to_list (past_mine place.past)) a)) tt
 
 pub read_eases : (k : Inst) (block grant : ℕ) (mode : Mode) (image : BlockContent) → Eased k (with_image k block (Some (read_from_disk grant mode image)))
 read_eases k block grant mode image = image_eases k block (Some (read_from_disk grant mode image)) (λ P a. tt)
@@ -139,13 +155,15 @@ read_eases k block grant mode image = image_eases k block (Some (read_from_disk 
 pub upgraded_eases : (k : Inst) (block grant : ℕ) → Eased k (with_image k block (option_map (upgraded grant) (place_at k.cache block).current))
 upgraded_eases k block grant = image_eases k block (option_map (upgraded grant) (place_at k.cache block).current) (λ P a. by P (place_at k.cache block) a)
   where
-    of : (P : ℕ → Type 0) (current : Option Current) (rest : List ℕ) → AllByRecursion P (option_to_list (option_and_then (λ now. now.mine) current) ++ rest)
-        → AllByRecursion P (option_to_list (option_and_then (λ now. now.mine) (option_map (upgraded grant) current)) ++ [])
-    of P None rest a = tt
-    of P (Some now) rest a = all_both P (option_to_list now.mine) [] (all_front P (option_to_list now.mine) rest a) tt
+    of : (P : ℕ → Type 0) (current : Option Current) (first : Option ℕ) → AllByRecursion P (option_to_list (option_and_then (λ now. now.mine) current) ++ option_to_list first)
+        → AllByRecursion P (option_to_list (option_and_then (λ now. now.mine) (option_map (lacking first) (option_map (upgraded grant) current))) ++ [])
+    of P None first a = tt
+    of P (Some now) first a =
+        all_both P (option_to_list (lacking first (upgraded grant now)).mine) []
+        (lacks P first (upgraded grant now) (all_front P (option_to_list now.mine) (option_to_list first) a) (all_behind P (option_to_list now.mine) (option_to_list first) a)) tt
 
     by : (P : ℕ → Type 0) (place : Place) → AllByRecursion P (mine_of place) → AllByRecursion P (mine_of (with_current (option_map (upgraded grant) place.current) place))
-    by P place a = of P place.current (option_to_list (option_and_then (λ past. past.mine) place.past)) a
+    by P place a = of P place.current (past_mine place.past) a
 
 pub reported_eases : (n : Inst) → Eased n (reported n)
 reported_eases n = cache_eases n (reported n) refl refl (forgets_fewer n.cache)

@@ -20,7 +20,7 @@ use Rattle.wire_net.specs.Masters.{master_of}
 use Rattle.buffer_cache.specs.declared.place.Current.{Current}
 use Rattle.buffer_cache.specs.declared.place.Place.{Place}
 use Rattle.buffer_cache.specs.Cache.{place_at}
-use Rattle.buffer_cache.specs.Place.{read_from_disk, shipped, upgraded, with_ask, with_current}
+use Rattle.buffer_cache.specs.Place.{lacking, past_mine, read_from_disk, shipped, upgraded, with_ask, with_current}
 use Rattle.inst_state.specs.declared.inst.Inst.{Inst}
 use Rattle.inst_state.specs.declared.shared.Core.{Core}
 use Rattle.inst_state.specs.Sending.{first_from}
@@ -53,10 +53,11 @@ small-enough v small = omega arith
 below-all : (steps disk v : ℕ) → AreFew steps → disk ≤ steps → v ≡ disk → v < 256 ^ 8
 below-all steps disk v few le same = omega (arith, few, le, same)
 
--- an image keeps its number as it becomes exclusive
-upgraded-number : (grant b : ℕ) (o : Option Current) (now : Current) → ((x : Current) → o ≡ Some x → x.image.front.number ≡ b) → option_map (upgraded grant) o ≡ Some now → now.image.front.number ≡ b
-upgraded-number grant b None now are is = absurd (none-some now is)
-upgraded-number grant b (Some x) now are is = ap (λ (y : Current). y.image.front.number) (sym (some-one (upgraded grant x) now is)) ∙ are x refl
+-- an image keeps its number where only how it is held changes
+same-number : (change : Current → Current) → ((x : Current) → (change x).image.front.number ≡ x.image.front.number) → (b : ℕ) (o : Option Current)
+    → ((x : Current) → o ≡ Some x → x.image.front.number ≡ b) → (now : Current) → option_map change o ≡ Some now → now.image.front.number ≡ b
+same-number change keeps b None are now is = absurd (none-some now is)
+same-number change keeps b (Some x) are now is = ap (λ (y : Current). y.image.front.number) (sym (some-one (change x) now is)) ∙ keeps x ∙ are x refl
 
 module _ (count steps blocks : ℕ) (core : Core) (insts : List Inst) (disk : Content) (p : Plays count steps blocks core.net.links core.net.masters insts disk) (n : Inst) (at : slice_get insts n.plan.me ≡ Some n) (from : ℕ) where
   abbrev me : ℕ
@@ -120,7 +121,7 @@ module _ (count steps blocks : ℕ) (core : Core) (insts : List Inst) (disk : Co
   install-plays s b grant mode past message current first about numbered number law =
       let m : Inst = with_image (risen_inst (packet_of s message)) b current in
       plays-answering count steps blocks core insts disk p n at from s b message (messages.Done b grant mode past) (master_of core.net.masters b) m first about refl (p.named b) numbered
-      (alike-at n m refl refl refl refl refl refl refl (place-long (with_current current) n.cache b) (λ are. numbers-place (with_current current) n.cache b are number)) refl
+      (alike-at n m refl refl refl refl refl refl refl (place-long (with_current current) n.cache b) (λ are. numbers-place (with_current current) n.cache b are (same-number (lacking (past_mine (place_at n.cache b).past)) (λ x. refl) b current number))) refl
       (λ c ne. place-other (with_current current) n.cache b c ne)
       (λ low.
       let f = p.follows b low in (
@@ -176,7 +177,7 @@ module _ (count steps blocks : ℕ) (core : Core) (insts : List Inst) (disk : Co
   image-is-granted s b grant mode first =
       let message : Message = messages.Grant b grant mode false in
       install-plays s b grant mode None message (option_map (upgraded grant) (place_at n.cache b).current) first refl tt
-      (λ now is. upgraded-number grant b (place_at n.cache b).current now ((p.each me n at).numbers b) is)
+      (same-number (upgraded grant) (λ x. refl) b (place_at n.cache b).current ((p.each me n at).numbers b))
       (λ low.
       let f = p.follows b low in
       subst (λ (current : Option Current). GoesOn me s core.net.links (answered me from (master_of core.net.masters b) (clock_then me s f.h) (messages.Done b grant mode None) core.net.links) (held_with me (option_map (upgraded grant) current) (risen me s f.h)) b f.entry (view p.whole b).block)

@@ -11,7 +11,7 @@ use Rattle.wire_net.specs.declared.message.Mode.TheVariants as modes
 use Rattle.buffer_cache.specs.declared.place.Current.{Current}
 use Rattle.buffer_cache.specs.declared.place.PastImage.{PastImage}
 use Rattle.buffer_cache.specs.declared.place.Place.{Place}
-use Rattle.buffer_cache.specs.Place.{empty_place, with_grant, is_exclusive, changed, left_behind, given_up, read_from_disk, shipped, unless_clean, unless_granted, upgraded, written, past_above, with_change, with_current, with_written, without_clean, without_grant, without_past}
+use Rattle.buffer_cache.specs.Place.{empty_place, with_grant, is_exclusive, changed, lacking, left_behind, given_up, read_from_disk, shipped, unless_clean, unless_granted, upgraded, written, past_above, past_mine, with_change, with_current, with_written, without_clean, without_grant, without_past}
 use Rattle.block_protocol.specs.Block.{Mode, Shared, Exclusive, Hold, Grants, Grant, Shipped, Done, Gone, GaveUp, Block, put, past_kept, unless_written}
 use Rattle.block_protocol.specs.Steps.{left}
 use Rattle.block_protocol.proofs.Basics.{none-some, put-same, put-other, put-elim}
@@ -126,13 +126,14 @@ module _ (hold : Option Hold) (v : ℕ) (d : Bool) (p : Option ℕ) (past : Opti
           go true = refl
           go false = refl
 
-  core-upgrades : (c : Option Current) (k : Hold) (g : ℕ) → hold ≡ Some k → IsPlaceOf hold v d p c past → IsPlaceOf (Some (record { mode = Exclusive; grant = g })) v d None (option_map (upgraded g) c) None
-  core-upgrades None k g e is = absurd (no-image k hold e is.held)
-  core-upgrades (Some now) k g e is = record {
+  core-upgrades : (c : Option Current) (first : Option RedoAt) (k : Hold) (g : ℕ) → hold ≡ Some k → IsPlaceOf hold v d p c past
+      → IsPlaceOf (Some (record { mode = Exclusive; grant = g })) v d None (option_map (lacking first) (option_map (upgraded g) c)) None
+  core-upgrades None first k g e is = absurd (no-image k hold e is.held)
+  core-upgrades (Some now) first k g e is = record {
     held = refl;
     there = λ other q none. let clash : ◌≡◌ {A = Option Hold} (Some (record { mode = Exclusive; grant = g })) None = none in cc;
-    numbered = λ other q. is.numbered now refl ∙ ap (λ z. z.image.front.version) (some-now (upgraded g now) other q);
-    marked = λ other q. is.marked now refl ∙ ap (λ z. z.dirty) (some-now (upgraded g now) other q);
+    numbered = λ other q. is.numbered now refl ∙ ap (λ z. z.image.front.version) (some-now (lacking first (upgraded g now)) other q);
+    marked = λ other q. is.marked now refl ∙ ap (λ z. z.dirty) (some-now (lacking first (upgraded g now)) other q);
     kept = refl;
   }
 
@@ -217,9 +218,9 @@ shipment-holds false g = refl
 pub cache-installs : CacheInstalls
 cache-installs s places i x scn comes le are =
     all-places places s (record s { frame = put s.frame i (Some (shipped_hold x.shared x.grant)); past = put s.past i None; version = put s.version i x.image.front.version; dirty = put s.dirty i x.dirty; op = Grants i (shipped_hold x.shared x.grant) Done; copies = put s.copies i [] }) i (with_current (Some (shipped x)) (places i)) are
-    (as-is (put s.frame i (Some (shipped_hold x.shared x.grant)) i) (Some (shipped_hold x.shared x.grant)) (put s.version i x.image.front.version i) x.image.front.version (put s.dirty i x.dirty i) x.dirty (put s.past i None i) None (Some (shipped x)) None
+    (as-is (put s.frame i (Some (shipped_hold x.shared x.grant)) i) (Some (shipped_hold x.shared x.grant)) (put s.version i x.image.front.version i) x.image.front.version (put s.dirty i x.dirty i) x.dirty (put s.past i None i) None (Some (lacking (past_mine (places i).past) (shipped x))) None
     (put-same s.frame i (Some (shipped_hold x.shared x.grant))) (put-same s.version i x.image.front.version) (put-same s.dirty i x.dirty) (put-same s.past i None)
-    (came (shipped x) (shipped_hold x.shared x.grant) x.image.front.version x.dirty (shipment-holds x.shared x.grant) refl refl))
+    (came (lacking (past_mine (places i).past) (shipped x)) (shipped_hold x.shared x.grant) x.image.front.version x.dirty (shipment-holds x.shared x.grant) refl refl))
     (λ j ne. (put-other s.frame i (Some (shipped_hold x.shared x.grant)) j ne, put-other s.version i x.image.front.version j ne, put-other s.dirty i x.dirty j ne, put-other s.past i None j ne))
 
 pub cache-reads : CacheReads
@@ -236,9 +237,9 @@ cache-upgrades s places i k scn comes le sound mode are =
     let held = was.operation.carrier.0 in
     let whole : k ≡ record { mode = Exclusive; grant = k.grant } = ap {A = Mode} {B = Hold} (λ m. record { mode = m; grant = k.grant }) mode in
     all-places places s (record s { frame = put s.frame i (Some k); past = put s.past i None; op = Grants i k Done; copies = put s.copies i [] }) i (with_current (option_map (upgraded k.grant) (places i).current) (places i)) are
-    (as-is (put s.frame i (Some k) i) (Some (record { mode = Exclusive; grant = k.grant })) (s.version i) (s.version i) (s.dirty i) (s.dirty i) (put s.past i None i) None (option_map (upgraded k.grant) (places i).current) None
+    (as-is (put s.frame i (Some k) i) (Some (record { mode = Exclusive; grant = k.grant })) (s.version i) (s.version i) (s.dirty i) (s.dirty i) (put s.past i None i) None (option_map (lacking (past_mine (places i).past)) (option_map (upgraded k.grant) (places i).current)) None
     (put-same s.frame i (Some k) ∙ ap (λ h. Some h) whole) refl refl (put-same s.past i None)
-    (core-upgrades (s.frame i) (s.version i) (s.dirty i) (s.past i) (places i).past (places i).current held.0 k.grant held.1 (are i)))
+    (core-upgrades (s.frame i) (s.version i) (s.dirty i) (s.past i) (places i).past (places i).current (past_mine (places i).past) held.0 k.grant held.1 (are i)))
     (λ j ne. (put-other s.frame i (Some k) j ne, refl, refl, put-other s.past i None j ne))
 
 pub cache-drops-past : CacheDropsPast
