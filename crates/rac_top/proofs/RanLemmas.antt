@@ -15,6 +15,7 @@ use Rattle.rac_top.specs.Ends.{is_told}
 use Rattle.rac_top.specs.Reads.{SaysAll}
 use Rattle.rac_top.specs.RunTexts.{IsUntold, rows_of}
 use Rattle.rac_top.specs.Runs.{HasRun, IsNotGood}
+use Rattle.log_laws.proofs.Runs.{run_has_good_logs}
 use Rattle.rac_top.proofs.LawLemmas.{keeps-laws}
 
 -- a script was read and run
@@ -29,6 +30,7 @@ has-run script run left left_now disk disk_now fit says at_end runs = record {
   is_created = runs.1;
   is_run = runs.2;
   keeps = keeps-laws script run runs.0 disk_now fit runs.2;
+  good_logs = λ told. run_has_good_logs script run disk runs.0 disk_now fit told runs.1 runs.2;
 }
 
 -- and its journal isn't good

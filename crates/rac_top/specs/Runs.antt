@@ -1,5 +1,5 @@
 -- What a run promises.
-use Rattle.std.specs.Prelude.{◌≡◌, ◌⊎◌, ℕ, List, [], Bool, true, false, Option, Ok}
+use Rattle.std.specs.Prelude.{◌≡◌, ◌⊎◌, ℕ, List, [], Bool, true, false, Option, Ok, is_some, IsSomeAnd}
 use Rattle.std.specs.Io.KnownBytes.{Appends, IsAtEnd}
 use Rattle.std.specs.List.{list_any}
 use Rattle.rac_io.specs.Counts.{Counts, Rose}
@@ -16,6 +16,7 @@ use Rattle.first_state.specs.declared.creation.Created.TheVariants.{Failed, Whol
 use Rattle.first_state.specs.Plan.{layout_of}
 use Rattle.cluster_run.specs.declared.script_runs.ClusterRun.{ClusterRun}
 use Rattle.cluster_run.specs.Runs.{IsCreated, IsRunOf, step_limit}
+use Rattle.log_laws.specs.Logs.{HasGoodLogs}
 use Rattle.rac_top.specs.declared.exit.End.{End}
 use Rattle.rac_top.specs.declared.exit.End.TheVariants.{Done, ReadFault, WriteFault, DiskFault, NotCreated, StepLimit, BadDisk, Stuck, NotGood}
 use Rattle.rac_top.specs.declared.exit.Exit.{Exit}
@@ -37,7 +38,8 @@ IsWritten Stuck text old new = Appends old new text
 IsWritten _ text old new = ⊥
 
 -- A script was read, which is all that the source had left, where it tells that; the database was made anew, and the
--- script was run over it, which left this. Each line is answered in its turn, and the ends of instances are counted.
+-- script was run over it, which left this. Each line is answered in its turn, and the ends of instances are counted. Where the
+-- disk tells what it holds, no log that is left is one that no run leaves, whatever crashed and whichever calls failed.
 pub record HasRun (left left_now : Option (List ℕ)) (disk disk_now : State) (parts : ScriptParts) (run : ClusterRun) : Type 0 where
   pub text : List ℕ
   pub all : IsAllOf left text × IsAtEnd left_now
@@ -46,6 +48,7 @@ pub record HasRun (left left_now : Option (List ℕ)) (disk disk_now : State) (p
   pub is_created : IsCreated (layout_of parts) Whole disk created
   pub is_run : IsRunOf parts run created disk_now
   pub keeps : KeepsLaws parts run created disk_now
+  pub good_logs : is_some disk.told ≡ true → IsSomeAnd disk_now.told HasGoodLogs
 
 -- A run is told as it went: its journal and its steps are those of the exit, it ends by how it finished, the journal was
 -- checked where that was asked for, and its text was written.
