@@ -12,9 +12,9 @@ use std::{fs, io};
 use trial_plan::{Plan, plan_in};
 
 /// The runs, by the names of their files.
-pub const STORED: [&str; 16] = [
-    "calm", "crashes", "faults", "hold", "jam", "lost", "mixed", "old", "ping", "race", "relay",
-    "remaster", "stale", "storm", "tiny", "wide",
+pub const STORED: [&str; 17] = [
+    "back", "calm", "crashes", "faults", "hold", "jam", "lost", "mixed", "old", "ping", "race",
+    "relay", "remaster", "stale", "storm", "tiny", "wide",
 ];
 
 /// The blocks of a disk.
