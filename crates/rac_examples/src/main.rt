@@ -13,6 +13,7 @@ use std::alloc::{AllocError, Global};
 use std::process::ExitCode;
 use std::rt::Files;
 use std::{fs, io};
+use world_machine::Nobody;
 
 /// The blocks of a disk.
 const BLOCKS: u16 = 200;
@@ -58,7 +59,14 @@ fn gives(
     let words = owned_words(alloc, words)?;
     let mut source = MemSource::new(script, Vec::new(alloc));
     let mut sink = MemSink::new(alloc, SINK_BYTES, Vec::new(alloc))?;
-    let exit = rac(alloc, words.as_slice(), &mut source, &mut sink, disk);
+    let exit = rac(
+        alloc,
+        words.as_slice(),
+        &mut source,
+        &mut sink,
+        disk,
+        &mut Nobody,
+    );
     Ok(is_expected(&exit, &sink, &End::Done, want))
 }
 

@@ -10,6 +10,7 @@ use rac_io::{Sink, Source};
 use rac_top::{End, Exit, rac};
 use std::alloc::Global;
 use std::rt::Files;
+use world_machine::Nobody;
 
 /// The blocks of a disk in memory.
 const BLOCKS: u16 = 200;
@@ -43,11 +44,11 @@ pub fn program<R: Files + AllocGlobal, S: Source, K: Sink>(
     let alloc = rt.alloc();
     match folder_named(alloc, words) {
         Ok(Some(folder)) => match FileDisk::at(rt, folder.as_str()) {
-            Ok(mut disk) => rac(alloc, words, source, sink, &mut disk),
+            Ok(mut disk) => rac(alloc, words, source, sink, &mut disk, &mut Nobody),
             Err(NoMemory) => Exit::without_run(alloc, End::NoMemory),
         },
         Ok(None) => match MemDisk::new(alloc, BLOCKS, LOG_BYTES, Vec::new(alloc)) {
-            Ok(mut disk) => rac(alloc, words, source, sink, &mut disk),
+            Ok(mut disk) => rac(alloc, words, source, sink, &mut disk, &mut Nobody),
             Err(NoMemory) => Exit::without_run(alloc, End::NoMemory),
         },
         Err(NoMemory) => Exit::without_run(alloc, End::NoMemory),

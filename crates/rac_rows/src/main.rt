@@ -15,6 +15,7 @@ use std::alloc::{AllocError, Global};
 use std::io;
 use std::process::ExitCode;
 use stored::{STORED, is_as_stored};
+use world_machine::Nobody;
 
 /// The blocks of a disk.
 const BLOCKS: u16 = 200;
@@ -67,7 +68,14 @@ fn is_expected(alloc: Global, row: &Row, n: u32, m: u32) -> Result<bool, NoMemor
         steps: false,
         check: true,
     };
-    let exit = run(alloc, options, &mut source, &mut sink, &mut disk);
+    let exit = run(
+        alloc,
+        options,
+        &mut source,
+        &mut sink,
+        &mut disk,
+        &mut Nobody,
+    );
     let written = sink.bytes();
     Ok(exit.end == end_of(row.end) && row.wanted.iter().any(|want| written == want.as_bytes()))
 }

@@ -10,6 +10,7 @@ use std::alloc::{AllocError, Global};
 use std::rt::Files;
 use std::{fs, io};
 use trial_plan::{Plan, plan_in};
+use world_machine::Nobody;
 
 /// The runs, by the names of their files.
 pub const STORED: [&str; 17] = [
@@ -35,7 +36,14 @@ fn written(alloc: Global, script: Vec<u8>, plan: Plan) -> Result<Vec<u8>, NoMemo
     let mut source = MemSource::new(script, Vec::new(alloc));
     let mut sink = MemSink::new(alloc, SINK_BYTES, Vec::new(alloc))?;
     let mut disk = MemDisk::new(alloc, BLOCKS, plan.room, plan.calls)?;
-    let exit = run(alloc, OPTIONS, &mut source, &mut sink, &mut disk);
+    let exit = run(
+        alloc,
+        OPTIONS,
+        &mut source,
+        &mut sink,
+        &mut disk,
+        &mut Nobody,
+    );
     let status = exit.end.status();
     let last = format!(in alloc; "status {status}\n")?;
     let mut text = Vec::new(alloc);

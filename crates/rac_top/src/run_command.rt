@@ -25,7 +25,7 @@ use rac_disk::SharedDisk;
 use rac_io::{Sink, Source};
 use script_text::Script;
 use std::alloc::Global;
-use world_machine::Nobody;
+use world_machine::Observer;
 
 /// The exit of a run that ends so.
 fn exit_of(run: ClusterRun, end: End) -> Exit
@@ -81,13 +81,15 @@ fn tell_run<K: Sink>(
 /// and writes the report: with the journal's own lines and the steps where they are asked for, and also where the run
 /// did not come to its end. Where the check is asked for and the journal isn't good, it writes nothing.
 ///
-/// Where the source, the sink or the disk doesn't tell what it holds, the clauses that speak of that claim nothing.
-pub fn run<S: Source, K: Sink, D: SharedDisk>(
+/// Where the source, the sink or the disk doesn't tell what it holds, the clauses that speak of that claim nothing. The
+/// observer looks on at each step, and changes nothing of the run; where it has no memory, the run ends for want of it.
+pub fn run<S: Source, K: Sink, D: SharedDisk, O: Observer>(
     alloc: Global,
     options: RunOptions,
     source: &mut S,
     sink: &mut K,
     disk: &mut D,
+    observer: &mut O,
 ) -> Exit
     // Why it ends as it does.
     ensures cause { RunEndsFor result.end options.check result.journal (S.left source.old) (Rose (S.faults source.old) (S.faults source.new))
@@ -114,7 +116,7 @@ pub fn run<S: Source, K: Sink, D: SharedDisk>(
         Err(end) => return Exit::without_run(alloc, end),
     };
     let before = failures_of(disk);
-    match run_script(alloc, &script, disk, &mut Nobody) {
+    match run_script(alloc, &script, disk, observer) {
         Ok(ScriptRun::Ran(run)) => {
             let failed = have_risen(before, failures_of(disk));
             tell_run(alloc, options, &script, run, failed, sink)

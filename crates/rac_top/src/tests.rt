@@ -8,6 +8,7 @@ use script_text::Rule;
 use std::alloc::{AllocError, Global};
 use std::process::Abort;
 use std::test::Fail;
+use world_machine::Nobody;
 
 /// A call: its words, its script, the reads that fail, the room of its sink and the writes that fail, the room of
 /// each log and the calls of the disk that fail; and how it ends, with what is written.
@@ -68,7 +69,14 @@ fn call(rt: &HostRuntime, case: &Case) -> Result<(Exit, MemSink, MemDisk), Fail>
     );
     let mut sink = MemSink::new(alloc, case.room, case.write_fails.to_vec(alloc)?)?;
     let mut disk = MemDisk::new(alloc, 200, case.log_bytes, case.disk_fails.to_vec(alloc)?)?;
-    let exit = rac(alloc, words.as_slice(), &mut source, &mut sink, &mut disk);
+    let exit = rac(
+        alloc,
+        words.as_slice(),
+        &mut source,
+        &mut sink,
+        &mut disk,
+        &mut Nobody,
+    );
     Ok((exit, sink, disk))
 }
 
@@ -451,6 +459,7 @@ fn content_that_no_run_left_is_told(rt: HostRuntime) -> Result<(), Fail> {
         &mut source,
         &mut sink,
         &mut HostileDisk,
+        &mut Nobody,
     );
     look(&rt, 0, &exit, &sink, &End::BadDisk, "3: ORA-03113\n");
     Ok(())
@@ -518,7 +527,14 @@ fn audit(rt: &HostRuntime, disk: &mut MemDisk, room: usize) -> Result<(Exit, Mem
     }
     let mut source = MemSource::new(Vec::new(alloc), Vec::new(alloc));
     let mut sink = MemSink::new(alloc, room, Vec::new(alloc))?;
-    let exit = rac(alloc, words.as_slice(), &mut source, &mut sink, disk);
+    let exit = rac(
+        alloc,
+        words.as_slice(),
+        &mut source,
+        &mut sink,
+        disk,
+        &mut Nobody,
+    );
     Ok((exit, sink))
 }
 

@@ -12,15 +12,17 @@ use cli_words::{Order, WordsError, read_words};
 use rac_disk::SharedDisk;
 use rac_io::{Sink, Source};
 use std::alloc::Global;
+use world_machine::Observer;
 
 /// Does all that the program does: what the words ask, a run or an audit. The words are those after the program's
-/// name; the folder that they name is the caller's to open.
-pub fn rac<S: Source, K: Sink, D: SharedDisk>(
+/// name; the folder that they name is the caller's to open. The observer looks on at a run.
+pub fn rac<S: Source, K: Sink, D: SharedDisk, O: Observer>(
     alloc: Global,
     words: &[String],
     source: &mut S,
     sink: &mut K,
     disk: &mut D,
+    observer: &mut O,
 ) -> Exit
     // Words that ask a run make a run, and words that ask an audit make an audit. Other words are wrong.
     ensures does { ByOrder (order_in (map string_bytes words.now))
@@ -37,7 +39,7 @@ pub fn rac<S: Source, K: Sink, D: SharedDisk>(
     ensures silent { is_told result.end ≡ false → (result.journal ≡ []) × (result.book ≡ []) × (sink.new ≡ sink.old) }
 {
     match read_words(alloc, words) {
-        Ok(Order::Run { options, folder: _ }) => run(alloc, options, source, sink, disk),
+        Ok(Order::Run { options, folder: _ }) => run(alloc, options, source, sink, disk, observer),
         Ok(Order::Audit { folder: _ }) => audit(alloc, sink, disk),
         Err(WordsError::Usage) => Exit::without_run(alloc, End::WrongWords),
         Err(WordsError::NoMemory) => Exit::without_run(alloc, End::NoMemory),

@@ -12,6 +12,7 @@ use std::process::ExitCode;
 use std::rt::{Env, Files};
 use std::{env, fs, io};
 use trial_plan::{Plan, plan_in};
+use world_machine::Nobody;
 
 /// The blocks of the disk.
 const BLOCKS: u16 = 200;
@@ -44,7 +45,14 @@ fn exit_of(rt: &HostRuntime, plan: Plan) -> Exit {
     };
     let mut source = StdSource::new(rt.stdin());
     let mut sink = StdSink::new(rt.stdout());
-    run(rt.alloc(), OPTIONS, &mut source, &mut sink, &mut disk)
+    run(
+        rt.alloc(),
+        OPTIONS,
+        &mut source,
+        &mut sink,
+        &mut disk,
+        &mut Nobody,
+    )
 }
 
 fn main(rt: HostRuntime) -> ExitCode {
