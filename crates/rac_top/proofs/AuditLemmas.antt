@@ -5,7 +5,7 @@ use Rattle.rac_disk.specs.Content.{Content}
 use Rattle.log_history.specs.Logs.{AreLogs, IsEnd, IsFirstWrong}
 use Rattle.log_history.proofs.OneWay.{one_way}
 use Rattle.log_audit.specs.Audits.{Tells, logs_in}
-use Rattle.rac_top.specs.Audits.{HasGoodLogs}
+use Rattle.log_laws.specs.Logs.{HasGoodLogs}
 
 are-good : (logs : List (List ℕ)) (threads : List (List Redo)) (rests : List (List ℕ)) → AreLogs logs threads rests → (thread place : ℕ) → IsFirstWrong logs thread place → ⊥
 are-good [] threads rests are thread place wrong = wrong

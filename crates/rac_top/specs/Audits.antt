@@ -3,8 +3,8 @@ use Rattle.std.specs.Prelude.{◌≡◌, ◌⊎◌, ℕ, List, [], Bool, true, f
 use Rattle.rac_io.specs.Counts.{Counts, Rose}
 use Rattle.rac_disk.specs.Content.{Content}
 use Rattle.rac_disk.specs.State.{State}
-use Rattle.log_history.specs.Logs.{IsFirstWrong}
-use Rattle.log_audit.specs.Audits.{Tells, logs_in}
+use Rattle.log_audit.specs.Audits.{Tells}
+use Rattle.log_laws.specs.Logs.{HasGoodLogs}
 use Rattle.rac_top.specs.declared.exit.End.{End}
 use Rattle.log_audit.specs.declared.error.AuditError.{AuditError}
 use Rattle.log_audit.specs.declared.error.AuditError.TheVariants as errors
@@ -18,10 +18,6 @@ abbrev pub end_of : AuditError → End
 end_of errors.Failed = LogsUnread
 end_of (errors.BadLog thread place) = BadLog thread place
 end_of errors.NoMemory = NoMemory
-
--- no log of the disk is one that no run left
-abbrev pub HasGoodLogs : Content → Type 0
-HasGoodLogs it = (thread place : ℕ) → IsFirstWrong (logs_in it) thread place → ⊥
 
 -- the text of what the logs of the disk tell was written
 abbrev pub WritesHistory : End → Option (List ℕ) → Option (List ℕ) → Content → Type 0

@@ -1,6 +1,7 @@
 ghost use Rattle.std.specs.Prelude.{◌≡◌, [], ◌⊎◌, IfSome, IsSomeAnd, Some, true, false};
 ghost use Rattle.rac_io.specs.Counts.{Counts, Rose};
-ghost use Rattle.rac_top.specs.Audits.{HasGoodLogs, WritesHistory, end_of};
+ghost use Rattle.log_laws.specs.Logs.{HasGoodLogs};
+ghost use Rattle.rac_top.specs.Audits.{WritesHistory, end_of};
 ghost use Rattle.rac_top.specs.Ends.{AuditEndsFor, Stayed, is_done, is_told};
 
 use crate::exit::{End, Exit};
