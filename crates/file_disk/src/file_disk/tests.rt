@@ -28,6 +28,8 @@ enum Fault {
 struct WatchedFile {
     bytes: Vec<u8>,
     fault: Fault,
+    /// Whether each read fails, and each asking for the length.
+    unread: bool,
     syncs: u64,
     unsynced: bool,
 }
@@ -52,10 +54,16 @@ impl DiskFile for WatchedFile {
     ghost holds = { λ it. Some it.bytes.items };
 
     fn len(&mut self) -> Result<u64, Failed> {
+        if self.unread {
+            return Err(Failed);
+        }
         Ok(self.bytes.len() as u64)
     }
 
     fn read(&mut self, at: u64, out: &mut [u8]) -> Result<usize, Failed> {
+        if self.unread {
+            return Err(Failed);
+        }
         let start = self.bytes.len().min(at as usize);
         let left = &self.bytes.as_slice()[start..];
         let count = left.len().min(out.len());
@@ -100,6 +108,7 @@ fn watched(alloc: Global, len: usize) -> Result<WatchedFile, NoMemory> {
     Ok(WatchedFile {
         bytes: vec![in alloc; 0; len]?,
         fault: Fault::Never,
+        unread: false,
         syncs: 0,
         unsynced: false,
     })
@@ -149,33 +158,51 @@ fn each_change_is_synced_before_it_is_answered(rt: HostRuntime) -> Result<(), Fa
     Ok(())
 }
 
-/// What goes wrong with the log of "ab", whether an append of "cde" and a cut to one byte are done, and the
-/// log's length behind each.
-const FAULTS: [(Fault, bool, u64, bool, u64); 6] = [
-    (Fault::Never, true, 5, true, 1),
-    (Fault::Write(0), false, 2, true, 1),
-    (Fault::Write(2), false, 4, true, 1),
-    (Fault::Sync, false, 5, false, 1),
-    (Fault::Cut, true, 5, false, 5),
-    (Fault::CutLate, true, 5, false, 1),
+/// What a call of the log left: whether it was done, the log's length as it is told then, and whether the file
+/// has that length.
+type Left = (bool, u64, bool);
+
+/// What goes wrong with the log of "ab", whether what a failed call left can't be read either, and what an
+/// append of "cde" and then a cut to one byte leave.
+const FAULTS: [(Fault, bool, Left, Left); 11] = [
+    (Fault::Never, false, (true, 5, true), (true, 1, true)),
+    (Fault::Write(0), false, (false, 2, true), (true, 1, true)),
+    (Fault::Write(2), false, (false, 4, true), (true, 1, true)),
+    (Fault::Sync, false, (false, 5, true), (false, 1, true)),
+    (Fault::Cut, false, (true, 5, true), (false, 5, true)),
+    (Fault::CutLate, false, (true, 5, true), (false, 1, true)),
+    (Fault::Write(0), true, (false, 2, true), (true, 1, true)),
+    (Fault::Write(2), true, (false, 2, false), (true, 1, true)),
+    (Fault::Sync, true, (false, 2, false), (false, 2, false)),
+    (Fault::Cut, true, (true, 5, true), (false, 5, true)),
+    (Fault::CutLate, true, (true, 5, true), (false, 5, false)),
 ];
 
-fn break_log(disk: &mut FileDisk<WatchedFile>, fault: Fault) {
+fn break_log(disk: &mut FileDisk<WatchedFile>, fault: Fault, unread: bool) {
     if let Some(log) = disk.logs.get_mut(usize::from(THREAD.0)) {
         log.fault = fault;
+        log.unread = unread;
     }
+}
+
+/// What a call that was done or failed left, in a file that can be read again.
+fn left(disk: &mut FileDisk<WatchedFile>, done: bool) -> Left {
+    break_log(disk, Fault::Never, false);
+    let told = disk.kept.log(THREAD).len() as u64;
+    (done, told, disk.log_len(THREAD) == Ok(told))
 }
 
 #[test]
 fn what_a_failed_call_left_is_told(rt: HostRuntime) -> Result<(), Fail> {
-    for (fault, appended, len, cut, len_then) in FAULTS {
+    for (fault, unread, appended, cut) in FAULTS {
         let mut disk = watched_disk(rt.alloc())?;
         disk.append(THREAD, b"ab")?;
-        break_log(&mut disk, fault);
-        assert_eq!(rt; disk.append(THREAD, b"cde").is_ok(), appended);
-        assert_eq!(rt; disk.log_len(THREAD)?, len);
-        assert_eq!(rt; disk.cut_log(THREAD, 1).is_ok(), cut);
-        assert_eq!(rt; disk.log_len(THREAD)?, len_then);
+        break_log(&mut disk, fault, unread);
+        let done = disk.append(THREAD, b"cde").is_ok();
+        assert_eq!(rt; left(&mut disk, done), appended);
+        break_log(&mut disk, fault, unread);
+        let done = disk.cut_log(THREAD, 1).is_ok();
+        assert_eq!(rt; left(&mut disk, done), cut);
     }
     Ok(())
 }
