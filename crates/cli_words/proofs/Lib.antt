@@ -1,3 +1,4 @@
 pub mod Given
+pub mod Numerals
 pub mod Taken
 pub mod Whole

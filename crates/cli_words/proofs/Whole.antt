@@ -1,5 +1,5 @@
--- Where clap takes the words, they give an order.
-use Rattle.std.proofs.Common.{◌≡◌, ◌&&◌, ◌||◌, ◌++◌, not, is_some, cond, ℕ, zero, suc, true, false, refl, sym, ap, List, [], ◌∷◌, Bool, length, Option, Some, None, codes, option_map, subst, true≢false, ◌∙◌}
+-- Words that the program knows give an order.
+use Rattle.std.proofs.Common.{◌≡◌, ◌&&◌, ◌||◌, ◌++◌, ◌-◌, ◌^◌, not, is_some, cond, ℕ, zero, suc, true, false, refl, sym, ap, List, [], ◌∷◌, Bool, length, Option, Some, None, codes, option_map, subst, true≢false, ◌∙◌}
 use Rattle.std.specs.Prelude.{if◌then◌else◌, find, drop, encode_utf8, slice_get, fold, option_and_then, unwrap_or}
 use Rattle.std.specs.Option.{option_map_or}
 use Rattle.std.specs.Str.{bytes_eq, chars}
@@ -13,10 +13,11 @@ use Rattle.clap.specs.Takes.{bundle_step_passes, entered_passes, flag_word_passe
 use Rattle.clap.specs.declared.parser.matches.ValueSource.{ValueSource}
 use Rattle.clap.specs.declared.parser.matches.ValueSource.TheVariants.{CommandLine}
 use Rattle.clap.specs.declared.builder.value_parser.Reading.{Reading}
-use Rattle.cli_words.specs.Command.{audit_shape, disk_rule, rac_app, run_shape}
-use Rattle.cli_words.specs.Orders.{order_from, order_in}
+use Rattle.cli_words.specs.Command.{audit_shape, disk_rule, load_shape, place_rule, rac_app, run_shape}
+use Rattle.cli_words.specs.Numbers.{number_up_to}
+use Rattle.cli_words.specs.Orders.{are_known, is_misspelled, misspells, order_from, order_in}
 use Rattle.cli_words.specs.declared.order.Order.{Order}
-use Rattle.cli_words.specs.declared.order.Order.TheVariants.{Audit}
+use Rattle.cli_words.specs.declared.order.Order.TheVariants.{Load, Audit}
 use Rattle.cli_words.proofs.Taken.{pass_both}
 
 -- ---- each row has a value
@@ -273,26 +274,45 @@ given_text id (r ∷ rows) f e =
 abbrev built_run : Shape
 built_run = built_leaf (inherited (with_leaf_noted (marked_built rac_app.top)) run_shape)
 
+abbrev built_load : Shape
+built_load = built_leaf (inherited (with_leaf_noted (marked_built rac_app.top)) load_shape)
+
 abbrev built_audit : Shape
 built_audit = built_leaf (inherited (with_leaf_noted (marked_built rac_app.top)) audit_shape)
 
-these_are_built : (built rac_app).subs ≡ built_run ∷ built_audit ∷ []
+these_are_built : (built rac_app).subs ≡ built_run ∷ built_load ∷ built_audit ∷ []
 these_are_built = refl
 
--- the option `--disk` of `audit`, once built
-abbrev built_disk : Rule
-built_disk = with_index 1 (filled (disk_rule true))
+-- the option `--disk`, once built
+abbrev built_disk : Bool → Rule
+built_disk is_required = with_index 1 (filled (disk_rule is_required))
 
-disk_keeps : Keeps false built_disk
-disk_keeps [] rows e f = absurd (true≢false (sym e))
-disk_keeps (v ∷ vs) rows e f = values_full (codes "disk") (reading_by built_disk) CommandLine (v ∷ vs) (without (codes "disk") rows) refl (without_full (codes "disk") rows f)
+-- an argument in its place, once built
+abbrev built_place : ℕ → Text → Rule
+built_place at id = with_index at (filled (place_rule id))
 
-only_disk : (b : Bool) (a : Rule) → cond b (Some built_disk) None ≡ Some a → Keeps false a
-only_disk true a is = subst (λ (r : Rule). Keeps false r) (ap (λ (o : Option Rule). unwrap_or o built_disk) is) disk_keeps
-only_disk false a is = absurd (true≢false (sym (ap is_some is)))
+disk_keeps : (is_required : Bool) → Keeps false (built_disk is_required)
+disk_keeps is_required [] rows e f = absurd (true≢false (sym e))
+disk_keeps is_required (v ∷ vs) rows e f =
+    values_full (codes "disk") (reading_by (built_disk is_required)) CommandLine (v ∷ vs) (without (codes "disk") rows) refl (without_full (codes "disk") rows f)
+
+place_keeps : (at : ℕ) (id : Text) → Keeps false (built_place at id)
+place_keeps at id [] rows e f = absurd (true≢false (sym e))
+place_keeps at id (v ∷ vs) rows e f =
+    values_full id (reading_by (built_place at id)) CommandLine (v ∷ vs) (without id rows) refl (without_full id rows f)
+
+same_keeps : (a b : Rule) → Keeps false a → ◌≡◌ {A = Option Rule} (Some a) (Some b) → Keeps false b
+same_keeps a b keeps is = subst (λ (r : Rule). Keeps false r) (ap (λ (o : Option Rule). unwrap_or o a) is) keeps
+
+none_keeps : (a : Rule) → ◌≡◌ {A = Option Rule} None (Some a) → Keeps false a
+none_keeps a is = absurd (true≢false (sym (ap is_some is)))
+
+only_disk : (b : Bool) (a : Rule) → cond b (Some (built_disk true)) None ≡ Some a → Keeps false a
+only_disk true a is = same_keeps (built_disk true) a (disk_keeps true) is
+only_disk false a is = none_keeps a is
 
 audit_keeps : AllKeep built_audit.args_override_self built_audit.rules
-audit_keeps p a is = only_disk (p built_disk) a is
+audit_keeps p a is = only_disk (p (built_disk true)) a is
 
 audit_has_folder : (words : List Text) → level_passes built_audit [] nothing_held words false ≡ true
     → is_some (first_of (codes "disk") (rows_at built_audit words).1) ≡ true
@@ -304,28 +324,77 @@ audit_has_folder words e =
     given_text (codes "disk") (finished built_audit.rules end) (level_full built_audit audit_keeps [] words false e)
     (both (is_given (codes "disk") (finished built_audit.rules end)) true is_there).0
 
+-- ---- the numbers of `load`
+
+one_of_three : (seed rounds disk : Bool) (a : Rule)
+    → cond seed (Some (built_place 1 (codes "seed"))) (cond rounds (Some (built_place 2 (codes "rounds"))) (cond disk (Some (built_disk false)) None)) ≡ Some a
+    → Keeps false a
+one_of_three true rounds disk a is = same_keeps (built_place 1 (codes "seed")) a (place_keeps 1 (codes "seed")) is
+one_of_three false true disk a is = same_keeps (built_place 2 (codes "rounds")) a (place_keeps 2 (codes "rounds")) is
+one_of_three false false true a is = same_keeps (built_disk false) a (disk_keeps false) is
+one_of_three false false false a is = none_keeps a is
+
+load_keeps : AllKeep built_load.args_override_self built_load.rules
+load_keeps p a is = one_of_three (p (built_place 1 (codes "seed"))) (p (built_place 2 (codes "rounds"))) (p (built_disk false)) a is
+
+load_has_numbers : (words : List Text) → level_passes built_load [] nothing_held words false ≡ true
+    → (is_some (first_of (codes "seed") (rows_at built_load words).1) ≡ true) × (is_some (first_of (codes "rounds") (rows_at built_load words).1) ≡ true)
+load_has_numbers words e =
+    let end : Held = (walk built_load.rules [] nothing_held words).held in
+    let rows : List Row = finished built_load.rules end in
+    let walks = both (walk_passes built_load [] (walk_from nothing_held) words) _ e in
+    let settles = both (settle_passes built_load.rules false end) _ walks.1 in
+    let are_there : (is_given (codes "seed") rows && (is_given (codes "rounds") rows && true)) ≡ true = settles.1 in
+    let all_full = level_full built_load load_keeps [] words false e in
+    let first = both (is_given (codes "seed") rows) _ are_there in
+    (given_text (codes "seed") rows all_full first.0, given_text (codes "rounds") rows all_full (both (is_given (codes "rounds") rows) true first.1).0)
+
+both_read : (seed rounds : Option ℕ) (folder : Option Text) → not (not (is_some seed) || not (is_some rounds)) ≡ true
+    → is_some (option_and_then (λ s. option_map (λ n. Load s n folder) rounds) seed) ≡ true
+both_read (Some s) (Some n) folder e = refl
+both_read (Some s) None folder e = e
+both_read None rounds folder e = e
+
+both_spelled : (seed rounds folder : Option Text) → is_some seed ≡ true → is_some rounds ≡ true
+    → not (is_misspelled (2 ^ 63 - 1) seed || is_misspelled 700 rounds) ≡ true
+    → is_some (option_and_then (λ s. option_map (λ n. Load s n folder) (option_and_then (number_up_to 700) rounds)) (option_and_then (number_up_to (2 ^ 63 - 1)) seed)) ≡ true
+both_spelled (Some seed) (Some rounds) folder p q e = both_read (number_up_to (2 ^ 63 - 1) seed) (number_up_to 700 rounds) folder e
+both_spelled (Some seed) None folder p q e = absurd (true≢false (sym q))
+both_spelled None rounds folder p q e = absurd (true≢false (sym p))
+
 -- ---- the order
 
 abbrev told_by : Option (Text × List Row) → Option Order
 told_by sub = option_and_then (λ p. order_from p.0 p.1) sub
 
+abbrev is_spelled : Option (Text × List Row) → Bool
+is_spelled sub = not (option_map_or (λ p. misspells p.0 p.1) sub false)
+
 audit_told : (folder : Option Text) → is_some folder ≡ true → is_some (option_map (λ f. Audit f) folder) ≡ true
 audit_told None e = e
 audit_told (Some f) e = refl
 
--- whichever of the two the word names
-either_told : (run audit : Bool) (words : List Text)
-    → option_map_or (λ s. level_passes s [] nothing_held words false) (cond run (Some built_run) (cond audit (Some built_audit) None)) true ≡ true
-    → is_some (option_map (λ s. rows_at s words) (cond run (Some built_run) (cond audit (Some built_audit) None))) ≡ true
-    → is_some (told_by (option_map (λ s. rows_at s words) (cond run (Some built_run) (cond audit (Some built_audit) None)))) ≡ true
-either_told true audit words e has = refl
-either_told false true words e has = audit_told _ (audit_has_folder words e)
-either_told false false words e has = has
+abbrev one_named : Bool → Bool → Bool → Option Shape
+one_named run load audit = cond run (Some built_run) (cond load (Some built_load) (cond audit (Some built_audit) None))
+
+-- whichever of the three the word names
+each_told : (run load audit : Bool) (words : List Text)
+    → option_map_or (λ s. level_passes s [] nothing_held words false) (one_named run load audit) true ≡ true
+    → is_some (option_map (λ s. rows_at s words) (one_named run load audit)) ≡ true
+    → is_spelled (option_map (λ s. rows_at s words) (one_named run load audit)) ≡ true
+    → is_some (told_by (option_map (λ s. rows_at s words) (one_named run load audit))) ≡ true
+each_told true load audit words e has spelled = refl
+each_told false true audit words e has spelled =
+    let there = load_has_numbers words e in
+    both_spelled _ _ _ there.0 there.1 spelled
+each_told false false true words e has spelled = audit_told _ (audit_has_folder words e)
+each_told false false false words e has spelled = has
 
 entered_told : (stop : Option (Text × List Text)) → entered_passes (built rac_app) stop ≡ true → is_some (entered (built rac_app) stop) ≡ true
-    → is_some (told_by (entered (built rac_app) stop)) ≡ true
-entered_told None e has = has
-entered_told (Some p) e has = either_told (answers_to p.0 (label_of built_run)) (answers_to p.0 (label_of built_audit)) p.1 e has
+    → is_spelled (entered (built rac_app) stop) ≡ true → is_some (told_by (entered (built rac_app) stop)) ≡ true
+entered_told None e has spelled = has
+entered_told (Some p) e has spelled =
+    each_told (answers_to p.0 (label_of built_run)) (answers_to p.0 (label_of built_load)) (answers_to p.0 (label_of built_audit)) p.1 e has spelled
 
 -- a subcommand has to be there
 needs_one : (words : List Text) (has : Bool) → level_passes (built rac_app).top (names_of (built rac_app)) nothing_held words has ≡ true → has ≡ true
@@ -340,10 +409,11 @@ needs_one words has e =
 abbrev pub told : Bool → Option (Text × List Row) → Option Order
 told is_taken sub = if is_taken then told_by sub else None
 
--- the words that clap takes give an order
-pub taken_is_told : (words : List Text) → takes rac_app words ≡ true → is_some (order_in words) ≡ true
-taken_is_told words e =
+-- the words that the program knows give an order
+pub known_is_told : (words : List Text) → are_known words ≡ true → is_some (order_in words) ≡ true
+known_is_told words known =
     let stop : Option (Text × List Text) = stop_after (built rac_app).top.rules (names_of (built rac_app)) words in
-    let parts = both (entered_passes (built rac_app) stop) _ e in
-    ap (λ (b : Bool). is_some (told b (entered (built rac_app) stop))) e
-    ∙ entered_told stop parts.0 (needs_one words (is_some (entered (built rac_app) stop)) parts.1)
+    let halves = both (takes rac_app words) _ known in
+    let parts = both (entered_passes (built rac_app) stop) _ halves.0 in
+    ap (λ (b : Bool). is_some (told b (entered (built rac_app) stop))) halves.0
+    ∙ entered_told stop parts.0 (needs_one words (is_some (entered (built rac_app) stop)) parts.1) halves.1

@@ -2,7 +2,7 @@
 use Rattle.std.specs.Prelude.{◌≡◌, ◌++◌, [], ◌∷◌, true, false, Some, None, codes}
 use Rattle.clap.specs.Words.{Text}
 use Rattle.cli_words.specs.Orders.{order_in}
-use Rattle.cli_words.specs.declared.order.Order.TheVariants.{Run, Audit}
+use Rattle.cli_words.specs.declared.order.Order.TheVariants.{Run, Load, Audit}
 use Rattle.cli_words.specs.declared.order.RunOptions.{RunOptions}
 
 -- a run of which nothing but its report is asked
@@ -28,6 +28,9 @@ GiveOrders = (order_in (codes "run" ∷ []) ≡ Some (Run plain None))
     × (order_in (codes "run" ∷ codes "--check" ∷ codes "--journal" ∷ []) ≡ Some (Run (record with_journal { check = true }) None))
     × (order_in (codes "run" ∷ codes "--check" ∷ codes "--disk=d" ∷ codes "--steps" ∷ codes "--journal" ∷ []) ≡ Some (Run with_all (Some (codes "d"))))
     × (order_in (codes "audit" ∷ codes "--disk" ∷ codes "d" ∷ []) ≡ Some (Audit (codes "d")))
+    × (order_in (codes "load" ∷ codes "7" ∷ codes "0" ∷ []) ≡ Some (Load 7 0 None))
+    × (order_in (codes "load" ∷ codes "9223372036854775807" ∷ codes "700" ∷ []) ≡ Some (Load 9223372036854775807 700 None))
+    × (order_in (codes "load" ∷ codes "--disk" ∷ codes "d" ∷ codes "007" ∷ codes "20" ∷ []) ≡ Some (Load 7 20 (Some (codes "d"))))
 
 -- these words give none
 abbrev pub GiveNone : Type 0
@@ -45,10 +48,16 @@ GiveNone = (order_in [] ≡ None)
     × (order_in (codes "help" ∷ []) ≡ None)
     × (order_in (codes "run" ∷ codes "--help" ∷ []) ≡ None)
     × (order_in (codes "--version" ∷ []) ≡ None)
-    × (order_in (codes "load" ∷ codes "7" ∷ codes "0" ∷ []) ≡ None)
+    × (order_in (codes "load" ∷ codes "7" ∷ []) ≡ None)
+    × (order_in (codes "load" ∷ codes "7" ∷ codes "701" ∷ []) ≡ None)
+    × (order_in (codes "load" ∷ codes "9223372036854775808" ∷ codes "0" ∷ []) ≡ None)
+    × (order_in (codes "load" ∷ codes "7" ∷ codes "+1" ∷ []) ≡ None)
+    × (order_in (codes "load" ∷ codes "7" ∷ codes "0" ∷ codes "0" ∷ []) ≡ None)
+    × (order_in (codes "load" ∷ codes "7" ∷ codes "0" ∷ codes "--journal" ∷ []) ≡ None)
 
 -- whatever the name of the folder, it may stand behind `--disk=`
 abbrev pub NameTheFolder : Text → Type 0
 NameTheFolder name = (order_in (codes "run" ∷ (codes "--disk=" ++ name) ∷ []) ≡ Some (Run plain (Some name)))
     × (order_in (codes "run" ∷ (codes "--disk=" ++ name) ∷ codes "--journal" ∷ []) ≡ Some (Run with_journal (Some name)))
     × (order_in (codes "audit" ∷ (codes "--disk=" ++ name) ∷ []) ≡ Some (Audit name))
+    × (order_in (codes "load" ∷ codes "7" ∷ codes "0" ∷ (codes "--disk=" ++ name) ∷ []) ≡ Some (Load 7 0 (Some name)))

@@ -1,6 +1,6 @@
 ghost use Rattle.std.specs.Prelude.{◌≡◌, IfOk, false};
 ghost use Rattle.clap.specs.Words.{app_of, rule_of};
-ghost use Rattle.cli_words.specs.Command.{disk_rule, flag_rule, rac_app};
+ghost use Rattle.cli_words.specs.Command.{disk_rule, flag_rule, place_rule, rac_app};
 
 use clap::{Arg, ArgAction, Command};
 use std::alloc::{AllocError, Global};
@@ -14,6 +14,10 @@ pub(crate) fn rac_command<'a>(alloc: Global) -> Result<Command<'a>, AllocError>
         .arg(flag(alloc, "steps"))?
         .arg(flag(alloc, "check"))?
         .arg(disk(alloc, false))?;
+    let load = Command::new(alloc, "load")
+        .arg(place(alloc, "seed"))?
+        .arg(place(alloc, "rounds"))?
+        .arg(disk(alloc, false))?;
     let audit = Command::new(alloc, "audit").arg(disk(alloc, true))?;
     Command::new(alloc, "rac")
         .no_binary_name(true)
@@ -21,6 +25,7 @@ pub(crate) fn rac_command<'a>(alloc: Global) -> Result<Command<'a>, AllocError>
         .disable_help_subcommand(true)
         .subcommand_required(true)
         .subcommand(run)?
+        .subcommand(load)?
         .subcommand(audit)
 }
 
@@ -29,6 +34,13 @@ fn flag<'a>(alloc: Global, name: &'a str) -> Arg<'a>
     ensures local { result.global ≡ false }
 {
     Arg::new(alloc, name).long(name).action(ArgAction::SetTrue)
+}
+
+fn place<'a>(alloc: Global, name: &'a str) -> Arg<'a>
+    ensures rule { rule_of result ≡ place_rule name.now }
+    ensures local { result.global ≡ false }
+{
+    Arg::new(alloc, name).required(true)
 }
 
 fn disk<'a>(alloc: Global, is_required: bool) -> Arg<'a>

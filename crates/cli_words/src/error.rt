@@ -7,7 +7,7 @@ use thiserror::Error;
 #[derive(Debug, Drop, Error)]
 pub enum WordsError {
     /// The program does not know the words, or they ask for help or for the version.
-    #[error("usage: rac run [--journal] [--steps] [--check] [--disk FOLDER], or: rac audit --disk FOLDER")]
+    #[error("usage: rac run [--journal] [--steps] [--check] [--disk FOLDER] | load SEED ROUNDS [--disk FOLDER] | audit --disk FOLDER")]
     Usage,
     #[error("no memory")]
     NoMemory,

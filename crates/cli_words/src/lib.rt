@@ -5,6 +5,7 @@ mod command;
 mod error;
 mod folder;
 mod laws;
+mod numbers;
 mod order;
 mod reading;
 #[cfg(test)]
@@ -12,6 +13,6 @@ mod tests;
 
 pub use error::WordsError;
 pub use folder::Folder;
-pub use laws::{taken_words_give_an_order, usual_words_are_read};
+pub use laws::{known_words_give_an_order, usual_words_are_read};
 pub use order::{Order, RunOptions};
 pub use reading::read_words;

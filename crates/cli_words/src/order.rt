@@ -19,6 +19,13 @@ pub enum Order {
         options: RunOptions,
         folder: Option<Folder>,
     },
+    /// Run the script of a load of this seed, below 2^63, and so many rounds, 700 at most. With `folder` the disk lies in
+    /// that folder.
+    Load {
+        seed: u64,
+        rounds: u32,
+        folder: Option<Folder>,
+    },
     /// Look over the disk that lies in the folder.
     Audit {
         folder: Folder,

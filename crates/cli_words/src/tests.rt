@@ -5,6 +5,7 @@ use std::test::Fail;
 #[derive(Clone, Copy)]
 enum Wanted<'a> {
     Run(RunOptions, Option<&'a str>),
+    Load(u64, u32, Option<&'a str>),
     Audit(&'a str),
     Usage,
 }
@@ -46,6 +47,26 @@ fn is_wanted(answer: &Result<Order, WordsError>, wanted: Wanted) -> bool {
             ),
             Wanted::Run(asked, Some(name)),
         ) => { *options == asked && folder.as_str() == name }
+        (
+            Ok(
+                Order::Load {
+                    seed,
+                    rounds,
+                    folder: None,
+                },
+            ),
+            Wanted::Load(of, count, None),
+        ) => *seed == of && *rounds == count,
+        (
+            Ok(
+                Order::Load {
+                    seed,
+                    rounds,
+                    folder: Some(folder),
+                },
+            ),
+            Wanted::Load(of, count, Some(name)),
+        ) => *seed == of && *rounds == count && folder.as_str() == name,
         (Ok(Order::Audit { folder }), Wanted::Audit(name)) => folder.as_str() == name,
         (Err(WordsError::Usage), Wanted::Usage) => true,
         _ => false,
@@ -61,7 +82,7 @@ fn read(rt: &HostRuntime, line: &[&str]) -> Result<Result<Order, WordsError>, Fa
     Ok(read_words(alloc, words.as_slice()))
 }
 
-const TAKEN: [(&[&str], Wanted<'static>); 24] = [
+const TAKEN: [(&[&str], Wanted<'static>); 33] = [
     (&["run"], Wanted::Run(PLAIN, None)),
     (&["run", "--journal"], Wanted::Run(WITH_JOURNAL, None)),
     (&["run", "--disk", "d"], Wanted::Run(PLAIN, Some("d"))),
@@ -121,18 +142,59 @@ const TAKEN: [(&[&str], Wanted<'static>); 24] = [
     (&["run", "--disk=a=b"], Wanted::Run(PLAIN, Some("a=b"))),
     (&["run", "--disk", "run"], Wanted::Run(PLAIN, Some("run"))),
     (&["audit", "--disk", "a b"], Wanted::Audit("a b")),
+    (&["load", "7", "0"], Wanted::Load(7, 0, None)),
+    (&["load", "0", "700"], Wanted::Load(0, 700, None)),
+    (
+        &["load", "9223372036854775807", "020"],
+        Wanted::Load(9223372036854775807, 20, None),
+    ),
+    (
+        &["load", "0000000000000000007", "1"],
+        Wanted::Load(7, 1, None),
+    ),
+    (
+        &["load", "7", "20", "--disk", "d"],
+        Wanted::Load(7, 20, Some("d")),
+    ),
+    (
+        &["load", "--disk", "7", "8", "9"],
+        Wanted::Load(8, 9, Some("7")),
+    ),
+    (
+        &["load", "7", "--disk=-", "20"],
+        Wanted::Load(7, 20, Some("-")),
+    ),
+    (&["load", "7", "--", "20"], Wanted::Load(7, 20, None)),
+    (&["load", "--", "7", "20"], Wanted::Load(7, 20, None)),
     // `--` ends the flags, and nothing need follow it
     (&["run", "--"], Wanted::Run(PLAIN, None)),
     (&["audit", "--disk", "d", "--"], Wanted::Audit("d")),
 ];
 
-const REFUSED: [&[&str]; 40] = [
+const REFUSED: [&[&str]; 57] = [
     &[],
     &[""],
     &["walk"],
     &["Run"],
     &["ru"],
-    &["load", "7", "0"],
+    &["load"],
+    &["load", "7"],
+    &["load", "7", "701"],
+    &["load", "7", "4294967296"],
+    &["load", "9223372036854775808", "0"],
+    &["load", "18446744073709551623", "0"],
+    &["load", "00000000000000000007", "0"],
+    &["load", "", "0"],
+    &["load", "7", ""],
+    &["load", "+7", "0"],
+    &["load", "-7", "0"],
+    &["load", "7", "0x1"],
+    &["load", "7", " 1"],
+    &["load", "7", "0", "0"],
+    &["load", "7", "0", "--journal"],
+    &["load", "7", "--disk", "0"],
+    &["load", "7", "0", "--disk"],
+    &["load", "7", "--", "0", "--disk", "d"],
     &["audit"],
     &["audit", "--disk"],
     &["audit", "--"],

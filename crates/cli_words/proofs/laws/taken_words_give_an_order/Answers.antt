@@ -1,6 +1,0 @@
-use Rattle.std.proofs.Common.{map, string_bytes}
-use Rattle.cli_words.proofs.Whole.{taken_is_told}
-use Rattle.cli_words.proofs.laws.taken_words_give_an_order.Goals as goal
-
-pub returns : goal.returns
-returns c = taken_is_told (map string_bytes c.args.words.now) c.requires
