@@ -17,3 +17,4 @@ pub use audit_command::audit;
 pub use exit::{End, Exit};
 pub use run_command::run;
 pub use top::rac;
+pub use writing::write_told;

@@ -14,8 +14,8 @@ use rac_io::{Sink, Source};
 use std::alloc::Global;
 use world_machine::Observer;
 
-/// Does all that the program does: what the words ask, a run or an audit. The words are those after the program's
-/// name; the folder that they name is the caller's to open. The observer looks on at a run.
+/// Does what the words ask, a run or an audit. The words are those after the program's name; the folder that they name
+/// is the caller's to open. A load is the caller's to make: here its words are wrong. The observer looks on at a run.
 pub fn rac<S: Source, K: Sink, D: SharedDisk, O: Observer>(
     alloc: Global,
     words: &[String],
@@ -41,6 +41,7 @@ pub fn rac<S: Source, K: Sink, D: SharedDisk, O: Observer>(
     match read_words(alloc, words) {
         Ok(Order::Run { options, folder: _ }) => run(alloc, options, source, sink, disk, observer),
         Ok(Order::Audit { folder: _ }) => audit(alloc, sink, disk),
+        Ok(Order::Load { .. }) => Exit::without_run(alloc, End::WrongWords),
         Err(WordsError::Usage) => Exit::without_run(alloc, End::WrongWords),
         Err(WordsError::NoMemory) => Exit::without_run(alloc, End::NoMemory),
     }
