@@ -39,7 +39,7 @@ use Rattle.report_steps.specs.Report.{reported}
 use Rattle.report_steps.specs.TakeOver.{taken_over}
 use Rattle.log_laws.proofs.Cluster.{own_of}
 use Rattle.log_laws.proofs.Keeps.{Eased, eased_where_same}
-use Rattle.log_laws.proofs.Places.{Fewer, all_both, all_front, asks_past, cleaned_fewer, fewer_by, forgets_fewer, gives_up, is_written, loses_clean, loses_grant, loses_past, place_fewer, place_more, places_of, taken_fewer}
+use Rattle.log_laws.proofs.Places.{Fewer, all_behind, all_both, all_front, asks_past, cleaned_fewer, fewer_by, forgets_fewer, gives_up, is_written, loses_clean, loses_grant, loses_past, place_fewer, place_more, places_of, taken_fewer}
 
 -- an instance of which the cache alone has changed
 cache_eases : (n m : Inst) → own_of m ≡ record (own_of n) { places = places_of m } → m.segment ≡ n.segment
