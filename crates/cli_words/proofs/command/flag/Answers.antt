@@ -1,4 +1,4 @@
-use Rattle.std.proofs.Common.{rules, ap, codes, ◌∙◌, Some}
+use Rattle.std.proofs.Common.{rules, ap, ◌∙◌, Some}
 use Rattle.clap.specs.Words.{Rule, rule_of}
 use Rattle.clap.specs.declared.builder.action.ArgAction.TheVariants.{SetTrue}
 use Rattle.cli_words.proofs.command.flag.Goals as goal

@@ -1,4 +1,4 @@
-use Rattle.std.proofs.Common.{ap, option_and_then, ◌∙◌, ◌≡◌}
+use Rattle.std.proofs.Common.{ap, option_and_then, ◌∙◌}
 use Rattle.clap.specs.Words.{found_of}
 use Rattle.clap.proofs.WalkLemmas.{first_value-rows}
 use Rattle.cli_words.specs.Numbers.{number_up_to}
