@@ -1,5 +1,5 @@
 -- What a load promises.
-use Rattle.std.specs.Prelude.{◌≡◌, ◌⊎◌, ℕ, List, [], Bool, true, false, Option, None, Some}
+use Rattle.std.specs.Prelude.{◌≡◌, ◌⊎◌, ℕ, List, [], true, false, Option, None, Some}
 use Rattle.rac_io.specs.Counts.{Rose}
 use Rattle.rac_disk.specs.State.{State}
 use Rattle.cli_words.specs.declared.order.RunOptions.{RunOptions}

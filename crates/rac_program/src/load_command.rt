@@ -1,4 +1,4 @@
-ghost use Rattle.std.specs.Prelude.{◌≡◌, ◌⊎◌, ◌<◌, ◌^◌, true, false};
+ghost use Rattle.std.specs.Prelude.{◌≡◌, ◌⊎◌, true, false};
 ghost use Rattle.rac_io.specs.Counts.{Rose};
 ghost use Rattle.rac_top.specs.RunEnds.{is_whole};
 ghost use Rattle.rac_program.specs.Loads.{IsLost, Loads, TellsLoad};
