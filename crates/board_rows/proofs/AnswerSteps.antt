@@ -59,10 +59,12 @@ module _ (asked : ℕ → Option Range) (floor : ℕ → ℕ) (old new : List Co
   found-seen : (past : Past) (e : Entry) → IsRead asked floor past e → FoundIsSeen old past e → FoundIsSeen new past e
   found-seen past e r f = grind (arith, sees-same past)
 
+  -- what was answered, and what was found
+  pub told-same : (past : Past) → Each (IsRead asked floor) past → Each (RowsAreSeen asked old) past → Each (FoundIsSeen old) past → Each (RowsAreSeen asked new) past × Each (FoundIsSeen new) past
+  told-same past read rows found = (each_both _ _ _ rows-seen past read rows, each_both _ _ _ found-seen past read found)
+
   pub answers-same : (scan : ℕ → Scan) (past : Past) → Answers asked floor scan past old → Answers asked floor scan past new
   answers-same scan past h = record {
-    rows = each_both _ _ _ rows-seen past h.read h.rows;
-    found = each_both _ _ _ found-seen past h.read h.found;
     read = h.read;
     scans = λ z. record { seen = (h.scans z).seen ∙ listed-alike _ _ (scan z).first (scan z).count (λ k low high. sees-same past (record { session = z; snapshot = (scan z).snapshot }) k ((h.scans z).read k low high)); read = (h.scans z).read };
   }

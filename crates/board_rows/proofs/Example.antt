@@ -3,7 +3,7 @@
 -- a commit record and a put that a crash loses, a rollback of what was kept, and the lost put's transaction anew.
 use Rattle.std.proofs.Common.{◌≡◌, ℕ, true, false, List, [], ◌∷◌, refl, arith, Option, Some, pos}
 use Rattle.std.proofs.lemmas.Bool.{false≢true}
-use Rattle.board_rows.proofs.Words.{Xid, Absent, Num, Entry, Opened, Started, Rows, Changed, Locked, Marked, Committed, Acked, Undone, Rolled, Crashed, Ended, Up, Moved, Deed, Changes, Locks, Range, Record, Does, TakesBack, Commits, RollsBack, DeedAt, Board, Event, Crash, Fault, after, nothing, Leads, MayTell}
+use Rattle.board_rows.proofs.Words.{Xid, Absent, Num, Entry, Opened, Started, Rows, Changed, Locked, Marked, Committed, Acked, Undone, Rolled, Crashed, Ended, Up, Moved, Deed, Changes, Locks, Range, Record, Does, TakesBack, Commits, RollsBack, DeedAt, Board, Event, after, nothing, Leads, MayTell}
 use Rattle.board_rows.specs.Events
 
 asked : ℕ → Option Range
@@ -62,7 +62,7 @@ events =
     ∷ Events.changes 4 1 2 y 1 second_deed
     ∷ Events.settles [] (Does 3 y 1 second_deed) old
     ∷ Events.notes (Moved 8)
-    ∷ Events.loses 1 3 (Crash 9)
+    ∷ Events.loses 1 3 (Crashed 9 1)
     ∷ Events.takes_back 0 y 1 0 0
     ∷ Events.rolls 0 y
     ∷ Events.settles (RollsBack 0 4 y ∷ []) (TakesBack 0 3 y 1 0) (Does 3 y 1 second_deed ∷ old)
@@ -128,7 +128,7 @@ losing =
     ∷ Events.changes 2 2 0 z 2 (Locks 1)
     ∷ Events.starts 3 0 0 0 0
     ∷ Events.marks 3 x
-    ∷ Events.loses 0 1 (Fault false)
+    ∷ Events.loses 0 1 (Ended 0 false)
     ∷ Events.settles [] (Does 1 x 1 first_deed) []
     ∷ Events.takes_back 1 x 1 0 0
     ∷ Events.rolls 1 x

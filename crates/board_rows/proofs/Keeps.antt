@@ -4,13 +4,13 @@ use Rattle.std.proofs.Common.{◌≡◌, ◌≢◌, ℕ, suc, ◌+◌, ◌<◌, 
 use Rattle.std.specs.Option.{option_map_or}
 use Rattle.std.specs.List.{AllByRecursion}
 use Rattle.std.proofs.lemmas.Bool.{eqb-true}
-use Rattle.board_rows.proofs.Words.{Xid, Entry, Marked, Committed, Undone, Rolled, Plain, Refused, Recovered, Moved, Checkpointed, NotDone, Start, Past, same_xid, home_of, is_up, Deed, Changes, Locks, row_of, changes_of, standing, is_open, holds, Commit, entered, marked, history, sees, is_of, last_of, own_changes, stood, is_commit_by, is_mark, started_up_to, came_up, acked_up_to, Range, CommitIsProper, FoundIsSeen, EachSuffix, Record, Does, TakesBack, Commits, RollsBack, DeedAt, without, thread_of, scn_of, xid_of, stands, of_xid, Fresh, Active, Over, stage, Rising, FreeUnder, IsFree, on, deeds_in, committed_at, commit_of, logged, wrap_in, has_end, Board, Scan, IsLate, IsNote, MayOpen, MayStart, MayRead, MayChange, MayTakeBack, MayRoll, MaySettle, MayAnswer, MayAck, MayUp, MayJoin, put, after, entry_of, unread, anew, read_on, is_own, value_there, Sound, IsRead, RowsStand, ScanIsSeen, Answers, RowsAreLate, RecordIsIn, Sessions, Follows}
+use Rattle.board_rows.proofs.Words.{Xid, Entry, Marked, Committed, Undone, Rolled, Plain, Refused, Recovered, Moved, Checkpointed, NotDone, Start, Past, same_xid, home_of, is_up, Deed, Changes, Locks, row_of, changes_of, standing, is_open, holds, Commit, entered, marked, history, sees, is_of, last_of, own_changes, stood, is_commit_by, is_mark, started_up_to, came_up, acked_up_to, Range, CommitIsProper, FoundIsSeen, RowsAreSeen, changes_in, Replays, Each, EachSuffix, Record, Does, TakesBack, Commits, RollsBack, DeedAt, without, thread_of, scn_of, xid_of, stands, of_xid, Fresh, Active, Over, stage, Rising, FreeUnder, IsFree, on, deeds_in, committed_at, commit_of, logged, wrap_in, has_end, Board, Scan, IsLate, IsNote, MayOpen, MayStart, MayRead, MayChange, MayTakeBack, MayRoll, MaySettle, MayAnswer, MayAck, MayUp, MayJoin, put, after, entry_of, unread, anew, read_on, is_own, value_there, Sound, IsRead, RowsStand, ScanIsSeen, Answers, RowsAreLate, RecordIsIn, Sessions, Follows}
 use Rattle.board_rows.proofs.Lists.{cases, all_of, all_map, all_both, all_append, clash, suffix_here, suffix_map}
 use Rattle.board_rows.specs.Events
 use Rattle.board_rows.proofs.Table.{OneMore}
 use Rattle.board_rows.proofs.Order.{pair_without, same_xid-sym}
 use Rattle.board_rows.proofs.ClockSteps.{put-here, put-all, put-rises, clocks-records, clocks-raises, clocks-learns, clocks-settles}
-use Rattle.board_rows.proofs.RowSteps.{IsNewest, newest-first, rows-changes, rows-back, rows-ends, rows-settles}
+use Rattle.board_rows.proofs.RowSteps.{IsNewest, newest-first, rows-changes, rows-back, rows-ends, rows-settles, replay-settles}
 use Rattle.board_rows.proofs.TxnSteps.{MayGoOn, txns-changes, txns-back, txns-marks, txns-rolls, goes-new, active-new}
 use Rattle.board_rows.proofs.TxnSettles.{all-placed, txns-settles, settled-quiet, apart-quiet, apart-commit}
 use Rattle.board_rows.proofs.Logged.{logged-quiet, logged-commit, stands-over}
@@ -19,7 +19,7 @@ use Rattle.board_rows.proofs.SegmentSteps.{segments-changes, segments-back, segm
 use Rattle.board_rows.proofs.Owns.{under-up, under-committed-more, under-fresh-all}
 use Rattle.board_rows.proofs.LateSteps.{late-reads, late-raises, late-changes, late-back, late-marks, late-rolls, late-settles}
 use Rattle.board_rows.proofs.Look.{changes-free, own-is, live-new, live-low, look-sees, look-late, change-sees, OfRec, stands-from}
-use Rattle.board_rows.proofs.AnswerSteps.{each-read, scan-read, answers-same, settled-same, unread-seen, anew-at, scan-reads, by_own}
+use Rattle.board_rows.proofs.AnswerSteps.{each-read, scan-read, answers-same, told-same, settled-same, unread-seen, anew-at, scan-reads, by_own}
 use Rattle.board_rows.proofs.SessionSteps.{none-stood, some-stood, row-free, sessions-changes, sessions-ends, starts-starts, starts-acks, starts-proper, starts-joins, starts-ups}
 
 module _ (asked : ℕ → Option Range) (insts : ℕ) (b : Board) (sound : Sound asked insts b) where
@@ -205,6 +205,9 @@ module _ (asked : ℕ → Option Range) (insts : ℕ) (b : Board) (sound : Sound
     told_history,
     late-settles b.records b.clock b.floor (λ y. is_open y b.past) told_at now less sound.late,
     answers,
+    told_same.0,
+    told_same.1,
+    replay,
     proper,
   )
     where
@@ -244,6 +247,12 @@ module _ (asked : ℕ → Option Range) (insts : ℕ) (b : Board) (sound : Sound
 
       answers : Answers asked b.floor b.scan b.past (entered a (history b.past))
       answers = answers-same asked b.floor (history b.past) (entered a (history b.past)) (settled-same b.records b.clock b.floor (λ y. is_open y b.past) x a more.new is marks.0 below sound.late sound.rows) b.scan b.past sound.answers
+
+      told_same : Each (RowsAreSeen asked (entered a (history b.past))) b.past × Each (FoundIsSeen (entered a (history b.past))) b.past
+      told_same = told-same asked b.floor (history b.past) (entered a (history b.past)) (settled-same b.records b.clock b.floor (λ y. is_open y b.past) x a more.new is marks.0 below sound.late sound.rows) b.past sound.answers.read sound.good_rows sound.good.found
+
+      replay : Replays (changes_in (entered a (history b.past)))
+      replay = replay-settles sound.rows x a more.new marks.0 below sound.good.replay
 
       proper : CommitIsProper b.past (Committed x c x.seg)
       proper = (refl, marks.1, none-stood x b.past more.new, sound.txns.apart c x.seg may.new)

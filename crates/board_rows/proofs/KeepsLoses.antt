@@ -1,7 +1,8 @@
 -- The loss of an instance keeps the board sound.
 use Rattle.std.proofs.Common.{filter, ◌≡◌, ◌≢◌, ℕ, ◌≤◌, Bool, true, false, cond, ◌==◌, List, [], ◌∷◌, refl, sym, ap, ◌∙◌, subst, arith, Option, Some, None}
 use Rattle.std.specs.List.{AllByRecursion}
-use Rattle.board_rows.proofs.Words.{Xid, Past, same_xid, home_of, row_of, changes_of, standing, is_open, Commit, history, is_home, last_of, own_changes, started_up_to, Range, same_xid-true, EachSuffix, Record, Does, TakesBack, Commits, RollsBack, DeedAt, thread_of, scn_of, xid_of, touches, stands, of_xid, Stage, Fresh, Active, Over, stage, FreeUnder, deeds_in, committed_at, seen_at, IsMade, logged, Board, Loss, Crash, Fault, IsLate, MayLose, after, anew, is_kept, Sound, Clocks, Sessions, RowsStand, RowsAreLate, ScanIsSeen, EndsBy, CanCommit, RecordIsIn, Crashed, Ended}
+use Rattle.std.proofs.lemmas.Bool.{eqb-true, false≢true}
+use Rattle.board_rows.proofs.Words.{Xid, Entry, is_loss_of, Past, same_xid, home_of, row_of, changes_of, standing, is_open, Commit, history, is_home, last_of, own_changes, started_up_to, Range, same_xid-true, EachSuffix, Record, Does, TakesBack, Commits, RollsBack, DeedAt, thread_of, scn_of, xid_of, touches, stands, of_xid, Stage, Fresh, Active, Over, stage, FreeUnder, deeds_in, committed_at, seen_at, IsMade, logged, Board, IsLate, MayLose, after, anew, is_kept, Sound, Clocks, Sessions, RowsStand, RowsAreLate, ScanIsSeen, EndsBy, CanCommit, RecordIsIn, Crashed, Ended}
 use Rattle.board_rows.proofs.Lists.{all_map, clash, all_filter, cases, pair_filter, all_of}
 use Rattle.board_rows.specs.Events
 use Rattle.board_rows.proofs.AnswerSteps.{anew-at, by_own}
@@ -47,7 +48,6 @@ module _ (asked : ℕ → Option Range) (insts : ℕ) (b : Board) (sound : Sound
     deeds_replay = replay-kept i kept b.records under sound.rows.deeds_replay;
     table = λ s k. sound.rows.table s k ∙ ap changes_of (sym (shown-kept i kept k (seen_at s committed) b.records under (all_map _ _ b.records (λ r h. unseen s k r h.ends h.own) sound.txns.each_record)));
     made = all_map _ _ (history b.past) made sound.rows.made;
-    replay = sound.rows.replay;
   }
     where
       made : (a : Commit) → IsMade committed (stands b.records) a → IsMade committed (stands there) a
@@ -130,8 +130,8 @@ module _ (asked : ℕ → Option Range) (insts : ℕ) (b : Board) (sound : Sound
   reads-loses : (z : ℕ) → (anew (is_home z i b.past) (b.scan z)).snapshot ≡ started_up_to z b.past
   reads-loses z = anew-at (is_home z i b.past) (b.scan z) ∙ sound.reads_at z
 
-  pub keeps-loses : (loss : Loss) → Sound asked insts (after b (Events.loses i kept loss))
-  keeps-loses (Crash line) = assumption (
+  crashes : (line : ℕ) → Sound asked insts (after b (Events.loses i kept (Crashed line i)))
+  crashes line = assumption (
     clocks-loses,
     txns-loses sound.txns i kept may.durable under,
     sessions-loses,
@@ -145,7 +145,9 @@ module _ (asked : ℕ → Option Range) (insts : ℕ) (b : Board) (sound : Sound
     reads-loses,
     scans-loses (Crashed line i ∷ b.past) (λ z. refl) (λ y off. (rw off refl, rw off refl)),
   )
-  keeps-loses (Fault bad) = assumption (
+
+  ends : (bad : Bool) → Sound asked insts (after b (Events.loses i kept (Ended i bad)))
+  ends bad = assumption (
     clocks-loses,
     txns-loses sound.txns i kept may.durable under,
     sessions-loses,
@@ -159,3 +161,8 @@ module _ (asked : ℕ → Option Range) (insts : ℕ) (b : Board) (sound : Sound
     reads-loses,
     scans-loses (Ended i bad ∷ b.past) (λ z. refl) (λ y off. (rw off refl, rw off refl)),
   )
+
+  pub keeps-loses : (entry : Entry) → is_loss_of i entry ≡ true → Sound asked insts (after b (Events.loses i kept entry))
+  keeps-loses (Crashed line lost) is = subst (λ lost. Sound asked insts (after b (Events.loses i kept (Crashed line lost)))) (eqb-true i lost is) (crashes line)
+  keeps-loses (Ended lost bad) is = subst (λ lost. Sound asked insts (after b (Events.loses i kept (Ended lost bad)))) (eqb-true i lost is) (ends bad)
+  keeps-loses _ is = absurd (false≢true is)

@@ -1,7 +1,7 @@
 -- The clauses on rows are kept by a change, by a step back, by an end and by a commit that becomes durable.
-use Rattle.std.proofs.Common.{◌≡◌, ℕ, ◌<◌, true, false, ◌==◌, max, List, [], ◌∷◌, refl, sym, ap, ◌∙◌, arith, inr, ◌⊎◌, Option, None}
+use Rattle.std.proofs.Common.{◌≡◌, ℕ, ◌<◌, true, false, ◌==◌, ◌&&◌, max, List, [], ◌∷◌, refl, sym, ap, ◌∙◌, arith, inr, ◌⊎◌, Option, None}
 use Rattle.std.specs.List.{AllByRecursion}
-use Rattle.board_rows.proofs.Words.{Xid, same_xid, Deed, row_of, changes_of, Commit, entered, changes_in, Replays, same_xid-refl, Record, Does, TakesBack, DeedAt, without, is_that, of_xid, stands, IsFree, on_row, deeds_in, seen_at, IsOver, Ordered, IsMade, Finds, RowsStand}
+use Rattle.board_rows.proofs.Words.{Xid, same_xid, Deed, row_of, changes_of, Commit, entered, changes_in, Replays, same_xid-refl, Record, Does, TakesBack, DeedAt, without, of_xid, stands, IsFree, on_row, deeds_in, seen_at, IsOver, Ordered, IsMade, Finds, RowsStand}
 use Rattle.board_rows.proofs.Lists.{cases, cases, all_map, suffix_here, suffix_map}
 use Rattle.board_rows.proofs.Shown.{shown-hidden, shown-without, on_row-all, on_row-of_xid}
 use Rattle.board_rows.proofs.Table.{IsClear, OneMore, TableStands-committed}
@@ -19,7 +19,7 @@ of_xid-without y x seq row (m ∷ mods) e = grind (arith, of_xid-without y x seq
 -- the newest of a transaction is the one that is taken back
 abbrev pub IsNewest : Xid → ℕ → ℕ → List DeedAt → Type 0
 IsNewest x seq row [] = ⊥
-IsNewest x seq row (m ∷ mods) = (is_that x seq row m ≡ true) ⊎ ((same_xid x m.xid ≡ false) × IsNewest x seq row mods)
+IsNewest x seq row (m ∷ mods) = (same_xid x m.xid && (seq == m.seq && row == row_of m.deed) ≡ true) ⊎ ((same_xid x m.xid ≡ false) × IsNewest x seq row mods)
 
 pub newest-first : (x : Xid) (seq row : ℕ) (mods : List DeedAt) (m : DeedAt) (rest : List DeedAt) → of_xid x mods ≡ m ∷ rest → seq ≡ m.seq → row ≡ row_of m.deed → IsNewest x seq row mods × (of_xid x (without x seq row mods) ≡ rest)
 newest-first x seq row [] m rest e f g = grind arith
@@ -60,7 +60,6 @@ module _ {recs : List Record} {committed : Xid → Option ℕ} {commits : List C
     deeds_replay = (replays deed found, rows.deeds_replay);
     table = λ t k. rows.table t k ∙ ap changes_of (sym (shown-hidden k (seen_at t committed) m (stands recs) (λ _. rw new refl)));
     made = all_map _ _ commits (made-other committed (stands recs) (m ∷ stands recs) x new (λ y e. sym (of_xid-other y m (stands recs) e))) rows.made;
-    replay = rows.replay;
   }
     where
       m : DeedAt
@@ -75,7 +74,6 @@ module _ {recs : List Record} {committed : Xid → Option ℕ} {commits : List C
     deeds_replay = (Replays-without x seq row committed (stands recs) new order newest replayed, rows.deeds_replay);
     table = λ t k. rows.table t k ∙ ap changes_of (sym (shown-without k (seen_at t committed) x seq row (stands recs) (λ _. rw new refl)));
     made = all_map _ _ commits (made-other committed (stands recs) (without x seq row (stands recs)) x new (λ y e. sym (of_xid-without y x seq row (stands recs) e))) rows.made;
-    replay = rows.replay;
   }
 
   -- an end changes no row
@@ -95,7 +93,6 @@ module _ {recs : List Record} {committed : Xid → Option ℕ} {commits : List C
     deeds_replay = rows.deeds_replay;
     table = TableStands-committed x a committed now commits (stands recs) more (λ k. ap (on_row k) marked ∙ on_row-of_xid k x (stands recs)) clear (λ k s. Ordered-ahead k s x committed (stands recs) more.new order) rows.table;
     made = all_entered (IsMade now (stands recs)) a commits (rw is (more.is x ∙ rw (same_xid-refl x) refl), rw is marked) (all_map _ _ commits keeps rows.made);
-    replay = Replays-entered a commits clear (rw marked on) rows.replay;
   }
     where
       clear : AllByRecursion (IsClear a) commits
@@ -104,10 +101,15 @@ module _ {recs : List Record} {committed : Xid → Option ℕ} {commits : List C
       keeps : (b : Commit) → IsMade committed (stands recs) b → IsMade now (stands recs) b
       keeps b made = grind (arith, cases, more.is b.xid, more.new)
 
+  -- the history replays with one more commit
+  pub replay-settles : (x : Xid) (a : Commit) → committed x ≡ None → a.changes ≡ changes_of (deeds_in (of_xid x (stands recs)))
+      → AllByRecursion (λ m. same_xid x m.xid ≡ true → m.scn < a.commit_scn) (stands recs) → Replays (changes_in commits) → Replays (changes_in (entered a commits))
+  replay-settles x a new marked below replay = Replays-entered a commits (rows-clear x a new marked below) (rw marked on) replay
+    where
       on : ReplaysOn (changes_in commits) (changes_of (deeds_in (of_xid x (stands recs))))
       on =
           let low = bound (λ (m : DeedAt). m.scn) (stands recs) in
           let up = bound (λ (b : Commit). b.commit_scn) commits in
           let s = max low.0 up.0 in
           let all = changes_up_to-all s commits (up.1 s (omega arith)) in
-          replays-on s x committed (changes_in commits) (stands recs) more.new (low.1 s (omega arith)) order (λ k. inr (sym (ap (on_row k) all) ∙ rows.table s k)) replayed
+          replays-on s x committed (changes_in commits) (stands recs) new (low.1 s (omega arith)) order (λ k. inr (sym (ap (on_row k) all) ∙ rows.table s k)) replayed

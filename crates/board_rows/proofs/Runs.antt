@@ -2,7 +2,7 @@
 use Rattle.std.proofs.Common.{◌≡◌, ℕ, List, [], ◌∷◌, ◌++◌, refl, sym, subst, arith, Option}
 use Rattle.board_rows.proofs.Words.{Xid, Deed, recorded_in, history, Range, GoodRows, GoodJournal, Board, Event, May, after, nothing, Leads, logged, Sound}
 use Rattle.board_rows.specs.Events
-use Rattle.board_rows.specs.Numbers.{since_loss}
+use Rattle.board_rows.specs.Sound.{since_loss}
 use Rattle.board_rows.proofs.Keeps.{keeps-opens, keeps-starts, keeps-learns, keeps-raises, keeps-changes, keeps-takes_back, keeps-marks, keeps-rolls, keeps-settles, keeps-reads, keeps-answers, keeps-acks, keeps-notes, keeps-joins, keeps-ups}
 use Rattle.board_rows.proofs.KeepsLoses.{keeps-loses}
 
@@ -27,7 +27,7 @@ module _ (asked : ℕ → Option Range) (insts : ℕ) where
   keeps b (Events.answers n z) may sound = keeps-answers asked insts b sound n z may
   keeps b (Events.acks n c x) may sound = keeps-acks asked insts b sound n c x may
   keeps b (Events.notes e) may sound = keeps-notes asked insts b sound e may
-  keeps b (Events.loses i kept loss) may sound = keeps-loses asked insts b sound i kept may loss
+  keeps b (Events.loses i kept entry) may sound = keeps-loses asked insts b sound i kept may.0 entry may.1
   keeps b (Events.joins i c known) may sound = keeps-joins asked insts b sound i c known may
   keeps b (Events.ups line i) may sound = keeps-ups asked insts b sound line i may
 
@@ -41,17 +41,10 @@ module _ (asked : ℕ → Option Range) (insts : ℕ) where
   leads-sound (e ∷ events) b end leads sound = leads-sound events (after b e) end leads.1 (keeps b e leads.0 sound)
 
   pub good-rows : (b : Board) → Sound asked insts b → GoodRows asked b.past
-  good-rows b sound = sound.answers.rows
+  good-rows b sound = sound.good_rows
 
   pub good-journal : (b : Board) → Sound asked insts b → GoodJournal b.past
-  good-journal b sound = record {
-    found = sound.answers.found;
-    commits = sound.proper.commits;
-    acknowledgements = sound.proper.acknowledgements;
-    starts = sound.proper.starts;
-    row_locks = sound.proper.row_locks;
-    replay = sound.rows.replay;
-  }
+  good-journal b sound = sound.good
 
   pub good-history : (b : Board) → Sound asked insts b → history b.past ≡ logged b.durable b.records
   good-history b sound = sound.log_history

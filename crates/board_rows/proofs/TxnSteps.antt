@@ -56,7 +56,10 @@ module _ {recs : List Record} {durable : ℕ → ℕ} {stand : Xid → List Deed
   -- a step back
   pub txns-back : (i c : ℕ) (x : Xid) (seq row left : ℕ) (m : DeedAt) (rest : List DeedAt) → stage x recs ≡ Active → (live x ≡ true → i ≡ x.seg) → of_xid x (stands recs) ≡ m ∷ rest → of_xid x (without x seq row (stands recs)) ≡ rest → (live x ≡ true → left ≡ length rest)
       → Txns (TakesBack i c x seq row ∷ recs) durable (λ y. cond (same_xid y x) (drop (length (stand y) - left) (stand y)) (stand y)) live mark has_mark committed has_commit
-  txns-back i c x seq row left m rest is own newest less stays = grind (arith, cases, length-map, active-open, of_xid-without)
+  txns-back i c x seq row left m rest is own newest less stays = grind (arith, cases, length-map, active-open, of_xid-without, older)
+    where
+      older : AllByRecursion (RecordIsIn (TakesBack i c x seq row ∷ recs) live) recs
+      older = all_map _ _ recs (λ r h. record { ends = h.ends; own = h.own }) txns.each_record
 
   -- a commit's record
   pub txns-marks : (c : ℕ) (x : Xid) → live x ≡ true → durable x.seg < c → AllByRecursion (λ r. same_xid (xid_of r) x ≡ true → scn_of r < c) recs

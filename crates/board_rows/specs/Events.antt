@@ -1,10 +1,8 @@
--- The board machine: its states, its events, what each of them needs and what it does.
+-- The board machine: its states, its events, what each of them needs and what it does, and what headers tell.
 use Rattle.std.specs.Prelude.{ℕ, suc, ◌+◌, ◌≡◌, ◌≢◌, ◌<◌, ◌≤◌, ◌⊎◌, ◌==◌, ◌||◌, Bool, true, false, if◌then◌else◌, max, nat_le, List, [], ◌∷◌, ◌++◌, length, Option, Some, None}
 use Rattle.std.specs.List.{AllByRecursion, filter}
-use Rattle.board_rows.specs.Words.{Xid, Value, Entry, Opened, Started, Rows, Changed, Locked, Marked, Committed, Acked, Undone, Rolled, Plain, Refused, Crashed, Ended, Recovered, Up, Moved, Checkpointed, NotDone, Past, same_xid, start_of, home_of, is_up, Deed, Changes, Locks, row_of, changes_of, is_open, value_by, last_of, own, is_home, stood, is_mark_by, came_up, acked_up_to, started_up_to, Range, listed_before}
-use Rattle.board_rows.specs.Board.{Record, Does, TakesBack, Commits, RollsBack, DeedAt, thread_of, scn_of, xid_of, touches, stands, of_xid, Stage, Fresh, Active, Over, stage, EachPair, IsSafe, ForSegment}
-use Rattle.board_rows.specs.Numbers.{recorded_in, wrap_in}
-use Rattle.board_rows.specs.Rows.{on, NewestIsFree, deeds_in, shown, committed_at, seen_at}
+use Rattle.board_rows.specs.Words.{Xid, Value, Entry, Opened, Started, Rows, Changed, Locked, Marked, Committed, Acked, Undone, Rolled, Plain, Refused, Recovered, Up, Moved, Checkpointed, NotDone, Past, same_xid, start_of, home_of, is_up, is_loss_of, Deed, Changes, Locks, row_of, changes_of, is_open, value_by, last_of, own, is_home, stood, is_mark_by, came_up, acked_up_to, started_up_to, Range, listed_before}
+use Rattle.board_rows.specs.Board.{Record, Does, TakesBack, Commits, RollsBack, DeedAt, thread_of, scn_of, xid_of, touches, stands, of_xid, Stage, Fresh, Active, Over, stage, EachPair, IsSafe, ForSegment, recorded_in, wrap_in, on, NewestIsFree, deeds_in, shown, committed_at, seen_at}
 
 -- what a session has read for its statement: of so many rows from the first on those that aren't absent
 pub record Scan : Type 0 where
@@ -45,16 +43,6 @@ abbrev pub IsLateHere : Board → ℕ → Xid → Type 0
 IsLateHere board snapshot xid = committed_at xid board.past ≡ None
     → IsLate snapshot (is_open xid board.past) (stage xid board.records) (board.clock xid.seg)
 
--- how an instance is lost: it crashes, as a line asks, or a fault or a bad block ends it
-pub data Loss : Type 0 where
-  Crash : (line : ℕ) → Loss
-  Fault : (bad : Bool) → Loss
-
--- the entry of a loss
-abbrev pub entry_of_loss : ℕ → Loss → Entry
-entry_of_loss inst (Crash line) = Crashed line inst
-entry_of_loss inst (Fault bad) = Ended inst bad
-
 -- What may happen. Sessions, instances and rows go by their numbers, statements and control lines by their lines.
 pub data Event : Type 0 where
   opens : (session inst : ℕ) → Event  -- a session is opened on an instance
@@ -75,7 +63,9 @@ pub data Event : Type 0 where
   answers : (stmt session : ℕ) → Event  -- the rows that a session has read are the answer of its statement
   acks : (stmt scn : ℕ) (xid : Xid) → Event  -- a statement is answered that its transaction has committed
   notes : (entry : Entry) → Event  -- an entry of which no clause on rows speaks
-  loses : (inst kept : ℕ) (loss : Loss) → Event  -- an instance is lost, and of its thread the records up to an SCN are kept
+  -- an instance is lost, as the entry tells: it crashes, or a fault or a bad block ends it; of its thread the records up
+  -- to an SCN are kept
+  loses : (inst kept : ℕ) (entry : Entry) → Event
   joins : (inst scn known : ℕ) → Event  -- an instance that is down gets new clocks
   ups : (line inst : ℕ) → Event  -- an instance is up, as a line asked
 
@@ -102,12 +92,10 @@ pub record MayLook (board : Board) (session inst snapshot row : ℕ) (newer ther
   pub low : snapshot ≤ board.clock inst  -- the snapshot is one that its clock has reached
   pub image : board.records ≡ newer ++ there  -- the image is of some moment up to now
   -- what came to the row since is above the snapshot, and isn't the session's own
-  pub later : AllByRecursion (λ r. touches row r ≡ true →
-      (snapshot < scn_of r) × (is_own (own session board.past) (xid_of r) ≡ false)) newer
+  pub later : AllByRecursion (λ r. touches row r ≡ true → (snapshot < scn_of r) × (is_own (own session board.past) (xid_of r) ≡ false)) newer
   -- of each deed that stands in the image it is right who has committed, and who hasn't will commit above the snapshot
   pub told : AllByRecursion (λ m. on row m ≡ true → (is_own (own session board.past) m.xid ≡ true)
-      ⊎ ((status m.xid ≡ seen_at snapshot (λ xid. committed_at xid board.past) m.xid)
-      × IsLateHere board snapshot m.xid)) (stands there)
+      ⊎ ((status m.xid ≡ seen_at snapshot (λ xid. committed_at xid board.past) m.xid) × IsLateHere board snapshot m.xid)) (stands there)
 
 -- what is read there
 abbrev pub value_there : Board → ℕ → ℕ → List Record → (Xid → Bool) → Value
@@ -246,7 +234,7 @@ May asked insts board (reads session inst row newer there status) = MayRead boar
 May asked insts board (answers stmt session) = MayAnswer asked board stmt session
 May asked insts board (acks stmt scn xid) = MayAck insts board stmt scn xid
 May asked insts board (notes entry) = IsNote entry
-May asked insts board (loses inst kept loss) = MayLose board inst kept
+May asked insts board (loses inst kept entry) = MayLose board inst kept × (is_loss_of inst entry ≡ true)
 May asked insts board (joins inst scn known) = MayJoin board inst scn known
 May asked insts board (ups line inst) = MayUp board inst
 
@@ -302,13 +290,10 @@ after board (changes stmt session snapshot xid seq deed) = record board {
   scan = put board.scan session (unread (board.scan session).snapshot (board.scan session).first);
   past = entry_of stmt xid deed ∷ board.past;
 }
-after board (takes_back inst xid seq row left) =
-    recorded board inst (TakesBack inst (board.clock inst + 1) xid seq row) (Undone xid left) xid
-after board (marks stmt xid) =
-    recorded board xid.seg (Commits (board.clock xid.seg + 1) xid) (Marked stmt xid (board.clock xid.seg + 1)) xid
+after board (takes_back inst xid seq row left) = recorded board inst (TakesBack inst (board.clock inst + 1) xid seq row) (Undone xid left) xid
+after board (marks stmt xid) = recorded board xid.seg (Commits (board.clock xid.seg + 1) xid) (Marked stmt xid (board.clock xid.seg + 1)) xid
 after board (rolls inst xid) = recorded board inst (RollsBack inst (board.clock inst + 1) xid) (Rolled xid) xid
-after board (settles newer r there) =
-    record board { durable = put board.durable (thread_of r) (scn_of r); past = settled r board.past }
+after board (settles newer r there) = record board { durable = put board.durable (thread_of r) (scn_of r); past = settled r board.past }
 after board (reads session inst row newer there status) = record board {
   floor = put board.floor row (max (board.floor row) (board.scan session).snapshot);
   scan = put board.scan session (read_on (board.scan session) (value_there board session row there status));
@@ -316,10 +301,10 @@ after board (reads session inst row newer there status) = record board {
 after board (answers stmt session) = told board (Rows stmt (board.scan session).rows)
 after board (acks stmt scn xid) = told board (Acked stmt xid scn)
 after board (notes entry) = told board entry
-after board (loses inst kept loss) = record board {
+after board (loses inst kept entry) = record board {
   records = filter (is_kept inst kept) board.records;
   scan = λ session. anew (is_home session inst board.past) (board.scan session);
-  past = entry_of_loss inst loss ∷ board.past;
+  past = entry ∷ board.past;
 }
 after board (joins inst scn known) = record board { clock = put board.clock inst scn; known = put board.known inst known }
 after board (ups line inst) = told board (Up line inst)
@@ -332,3 +317,25 @@ nothing = record { records = []; durable = λ inst. 0; clock = λ inst. 0; known
 abbrev pub Leads : (ℕ → Option Range) → ℕ → Board → List Event → Board → Type 0
 Leads asked insts board [] end = board ≡ end
 Leads asked insts board (event ∷ events) end = May asked insts board event × Leads asked insts (after board event) events end
+
+-- the SCN of a transaction's end, by a commit or a rollback: all that a header has of it
+abbrev pub ended : Xid → List Record → Option ℕ
+ended xid [] = None
+ended xid (Commits scn other ∷ older) = if same_xid xid other then Some scn else ended xid older
+ended xid (RollsBack inst scn other ∷ older) = if same_xid xid other then Some scn else ended xid older
+ended xid (_ ∷ older) = ended xid older
+
+-- A row is looked at for a snapshot in an image that is the content after the records `there`; the header of a
+-- transaction's segment is that after `mid ++ there`, a later moment.
+pub record MayTell (board : Board) (snapshot row : ℕ) (xid : Xid) (newer mid there : List Record) : Type 0 where
+  pub image : board.records ≡ newer ++ (mid ++ there)  -- the header is of some moment up to now
+  -- what came to the row since the image is above the snapshot
+  pub later : AllByRecursion (λ r. touches row r ≡ true → snapshot < scn_of r) (newer ++ mid)
+  -- a commit since the header is above the snapshot
+  pub above : AllByRecursion (λ r. (scn : ℕ) → r ≡ Commits scn xid → snapshot < scn) newer
+  pub clock : is_open xid board.past ≡ true → snapshot ≤ board.clock xid.seg  -- and so will be one that comes yet
+  -- a commit that the header tells up to the snapshot is durable
+  pub durable : (end : ℕ) → stage xid (mid ++ there) ≡ Over (Some end) → end ≤ snapshot → end ≤ board.durable xid.seg
+  -- the end of a rollback has the last SCN of its transaction
+  pub last : (end : ℕ) → stage xid (mid ++ there) ≡ Over None → ended xid (mid ++ there) ≡ Some end →
+      AllByRecursion (λ r. same_xid xid (xid_of r) ≡ true → scn_of r ≤ end) mid

@@ -3,7 +3,6 @@ pub use Rattle.base_types.specs.declared.names.Xid.{Xid}
 pub use Rattle.base_types.specs.declared.value.Value.{Value}
 pub use Rattle.journal.specs.declared.entry.Entry.{Entry}
 pub use Rattle.journal.specs.declared.entry.Entry.TheVariants.{Opened, Started, Rows, Changed, Locked, Marked, Committed, Acked, Undone, Rolled, Plain, Refused, Crashed, Ended, Recovered, Up, Moved, Checkpointed, NotDone}
-pub use Rattle.journal.specs.declared.deeds.Start.{Start}
 pub use Rattle.journal.specs.declared.deeds.Change.{Change}
 pub use Rattle.journal.specs.declared.deeds.Commit.{Commit}
 pub use Rattle.journal.specs.declared.deeds.Deed.{Deed}
@@ -13,4 +12,4 @@ pub use Rattle.journal.specs.Standing.{row_of, changes_of, standing, is_open, ho
 pub use Rattle.journal.specs.History.{history, is_before, entered, marked, changes_up_to, value_by}
 pub use Rattle.journal.specs.Sees.{sees, is_of, is_home, last_of, own, own_changes}
 pub use Rattle.journal.specs.Stood.{stood, is_mark, is_mark_by, is_commit, is_commit_at, is_commit_by, acked_up_to, started_up_to, came_up}
-pub use Rattle.journal.specs.Good.{Range, listed, listed_before, RowsAreSeen, FoundIsSeen, CommitIsProper, AckIsProper, StartIsProper, RowIsFree, changes_in, Replays}
+pub use Rattle.journal.specs.Good.{GoodRows, GoodJournal, Range, listed, listed_before, RowsAreSeen, FoundIsSeen, CommitIsProper, AckIsProper, StartIsProper, RowIsFree, changes_in, Replays}

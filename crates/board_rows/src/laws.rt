@@ -7,11 +7,10 @@ ghost use Rattle.journal.specs.History.{history};
 ghost use Rattle.journal.specs.Sees.{sees};
 ghost use Rattle.journal.specs.Good.{Range, GoodRows, GoodJournal};
 ghost use Rattle.board_rows.specs.Board.{Record, DeedAt, stands, of_xid, Fresh, Active, stage};
-ghost use Rattle.board_rows.specs.Numbers.{has_end};
-ghost use Rattle.board_rows.specs.Rows.{on, deeds_in, logged, committed_at, is_up_to, seen_at};
+ghost use Rattle.board_rows.specs.Board.{on, deeds_in, logged, committed_at, is_up_to, seen_at};
 ghost use Rattle.board_rows.specs.Events.{Board, Event, May, MayLook, MayLose, KeepsSegments, IsLateHere, value_there, after, nothing, Leads};
-ghost use Rattle.board_rows.specs.Headers.{ended, MayTell};
-ghost use Rattle.board_rows.specs.Sound.{Sound};
+ghost use Rattle.board_rows.specs.Events.{ended, MayTell};
+ghost use Rattle.board_rows.specs.Sound.{has_end, Sound};
 
 /// Each event that may come leaves the board sound.
 pub fn each_event_keeps_the_board_sound()

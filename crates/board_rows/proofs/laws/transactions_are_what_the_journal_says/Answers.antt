@@ -1,6 +1,6 @@
 -- By the clauses on segments, transactions and numbers.
 use Rattle.std.proofs.Common.{◌≡◌, Bool, true, false, refl, inl}
-use Rattle.board_rows.specs.Numbers.{has_end}
+use Rattle.board_rows.specs.Sound.{has_end}
 use Rattle.board_rows.proofs.laws.transactions_are_what_the_journal_says.Goals as goal
 
 pub returns-clause-open : goal.returns-clause-open
