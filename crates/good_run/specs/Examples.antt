@@ -12,6 +12,7 @@ use Rattle.journal.specs.Past.{Past}
 use Rattle.script_text.specs.declared.item.Item.{Item}
 use Rattle.script_text.specs.declared.item.Item.TheVariants.{Session, CrashAfter, CrashMark, Start, Remaster, Checkpoint, Hold}
 use Rattle.script_text.specs.declared.item.Item.TheVariants.{Stmt as Statement}
+use Rattle.script_text.specs.declared.item.Keep.{Keep}
 use Rattle.script_text.specs.declared.item.Keep.TheVariants.{First, All, AllBut}
 use Rattle.script_text.specs.declared.item.Stmt.TheVariants.{Get, Scan, Put, Add, Commit, RollbackTo}
 use Rattle.script_text.specs.ScriptParts.{ScriptParts}
@@ -131,17 +132,32 @@ abbrev pub both_refused : Past
 both_refused =
     reverse (Opened 0 0 ∷ Opened 1 0 ∷ Crashed 4 0 ∷ Refused 7 NotConnected ∷ Refused 8 NotConnected ∷ [])
 
--- `session a on 0 | session b on 1 | a: put 0 7 | go | a: commit | crash 0 at mark keep all-1 | go | b: get 0`
-abbrev pub crash_at_mark : ScriptParts
-crash_at_mark =
+-- `session a on 0 | session b on 1 | a: put 0 7 | go | a: commit | crash 0 at mark keep` so much `| go | b: get 0`
+abbrev pub crash_that_keeps : Keep → ScriptParts
+crash_that_keeps keep =
     script 2 9 (0 ∷ 1 ∷ []) (((2, Session 0 0) ∷ (3, Session 1 1) ∷ (4, Statement 0 (Put 0 (Num (pos 7)))) ∷ [])
-    ∷ ((6, Statement 0 Commit) ∷ (7, CrashMark 0 (AllBut 1)) ∷ []) ∷ ((9, Statement 1 (Get 0)) ∷ []) ∷ [])
+    ∷ ((6, Statement 0 Commit) ∷ (7, CrashMark 0 keep) ∷ []) ∷ ((9, Statement 1 (Get 0)) ∷ []) ∷ [])
+
+-- with `all-1`, so that the mark's last byte is lost
+abbrev pub crash_at_mark : ScriptParts
+crash_at_mark = crash_that_keeps (AllBut 1)
+
+-- with `all`, so that the mark is kept
+abbrev pub crash_behind_mark : ScriptParts
+crash_behind_mark = crash_that_keeps All
 
 -- the mark is lost with its instance
 abbrev pub mark_lost : Past
 mark_lost =
     reverse (Opened 0 0 ∷ Opened 1 1 ∷ Started 4 0 0 ∷ Changed 4 first_xid 0 Absent (Num (pos 7)) ∷ Started 6 0 0
     ∷ Marked 6 first_xid 2 ∷ Crashed 7 0 ∷ Refused 6 Lost ∷ Recovered 1 ∷ Started 9 1 2 ∷ Rows 9 [] ∷ [])
+
+-- the mark is kept, and so the transaction has committed, though its session isn't told
+abbrev pub mark_kept : Past
+mark_kept =
+    reverse (Opened 0 0 ∷ Opened 1 1 ∷ Started 4 0 0 ∷ Changed 4 first_xid 0 Absent (Num (pos 7)) ∷ Started 6 0 0
+    ∷ Marked 6 first_xid 2 ∷ Committed first_xid 2 0 ∷ Crashed 7 0 ∷ Refused 6 Lost ∷ Recovered 1 ∷ Started 9 1 2
+    ∷ Rows 9 ((0, Num (pos 7)) ∷ []) ∷ [])
 
 -- the transaction is marked before its commit started
 abbrev pub early_mark : Past
@@ -219,6 +235,10 @@ wrong_cause =
 abbrev pub xid_of : ℕ → Xid
 xid_of inst = record { seg = inst; slot = 0; wrap = 1 }
 
+-- the second transaction of an instance, in another slot
+abbrev pub second_of : ℕ → Xid
+second_of inst = record { seg = inst; slot = 1; wrap = 1 }
+
 -- `session r on 0 | session m on 0 | r: put 0 1 | r: put 8 1 | r: commit | go | hold r until m | r: scan 0 15
 -- | m: put 0 2 | m: put 8 2 | m: commit | go | r: scan 0 15`
 abbrev pub held_scan : ScriptParts
@@ -229,9 +249,9 @@ held_scan =
     ∷ (11, Statement 1 (Put 8 (Num (pos 2)))) ∷ (12, Statement 1 Commit) ∷ [])
     ∷ ((14, Statement 0 (Scan 0 15)) ∷ []) ∷ [])
 
--- the second transaction of instance 0, in another slot
+-- the second transaction of instance 0
 abbrev pub second_xid : Xid
-second_xid = record { seg = 0; slot = 1; wrap = 1 }
+second_xid = second_of 0
 
 -- the scan tells the table as it started, after the other session has committed
 abbrev pub scan_as_started : Past
@@ -242,6 +262,40 @@ scan_as_started =
     ∷ Started 11 1 2 ∷ Changed 11 second_xid 8 (Num (pos 1)) (Num (pos 2)) ∷ Started 12 1 2 ∷ Marked 12 second_xid 3
     ∷ Committed second_xid 3 0 ∷ Acked 12 second_xid 3 ∷ Rows 9 ((0, Num (pos 1)) ∷ (8, Num (pos 1)) ∷ [])
     ∷ Started 14 0 3 ∷ Rows 14 ((0, Num (pos 2)) ∷ (8, Num (pos 2)) ∷ []) ∷ [])
+
+-- `seed 1 | session r on 0 | session m on 1 | m: put 0 1 | m: put 8 1 | m: commit | go | r: scan 0 15 | m: put 0 2
+-- | m: put 8 2 | m: commit`
+abbrev pub scan_beside : ScriptParts
+scan_beside =
+    script 2 12 (0 ∷ 1 ∷ []) (((3, Session 0 0) ∷ (4, Session 1 1) ∷ (5, Statement 1 (Put 0 (Num (pos 1))))
+    ∷ (6, Statement 1 (Put 8 (Num (pos 1)))) ∷ (7, Statement 1 Commit) ∷ [])
+    ∷ ((9, Statement 0 (Scan 0 15)) ∷ (10, Statement 1 (Put 0 (Num (pos 2))))
+    ∷ (11, Statement 1 (Put 8 (Num (pos 2)))) ∷ (12, Statement 1 Commit) ∷ []) ∷ [])
+
+-- what its writer leaves, with what stands before its second transaction and after it
+abbrev pub beside_writer : List Entry → List Entry → Past
+beside_writer before after =
+    reverse (Opened 0 0 ∷ Opened 1 1 ∷ Started 5 1 0 ∷ Changed 5 (xid_of 1) 0 Absent (Num (pos 1)) ∷ Started 6 1 0
+    ∷ Changed 6 (xid_of 1) 8 Absent (Num (pos 1)) ∷ Started 7 1 0 ∷ Marked 7 (xid_of 1) 2 ∷ Committed (xid_of 1) 2 1
+    ∷ Acked 7 (xid_of 1) 2 ∷ before ++ Started 10 1 2 ∷ Changed 10 (second_of 1) 0 (Num (pos 1)) (Num (pos 2))
+    ∷ Started 11 1 2 ∷ Changed 11 (second_of 1) 8 (Num (pos 1)) (Num (pos 2)) ∷ Started 12 1 2
+    ∷ Marked 12 (second_of 1) 3 ∷ Committed (second_of 1) 3 1 ∷ Acked 12 (second_of 1) 3 ∷ after)
+
+-- the scan starts before the second commit, and tells nothing of it
+abbrev pub scan_before : Past
+scan_before = beside_writer (Started 9 0 2 ∷ []) (Rows 9 ((0, Num (pos 1)) ∷ (8, Num (pos 1)) ∷ []) ∷ [])
+
+-- it starts after it, and tells all of it
+abbrev pub scan_after : Past
+scan_after = beside_writer [] (Started 9 0 3 ∷ Rows 9 ((0, Num (pos 2)) ∷ (8, Num (pos 2)) ∷ []) ∷ [])
+
+-- it tells half of it
+abbrev pub scan_between : Past
+scan_between = beside_writer (Started 9 0 2 ∷ []) (Rows 9 ((0, Num (pos 1)) ∷ (8, Num (pos 2)) ∷ []) ∷ [])
+
+-- it starts below the second commit, though that is answered
+abbrev pub scan_below : Past
+scan_below = beside_writer [] (Started 9 0 2 ∷ Rows 9 ((0, Num (pos 1)) ∷ (8, Num (pos 1)) ∷ []) ∷ [])
 
 -- `session a on 0 | session b on 1 | a: put 0 1 | a: commit | go | b: put 0 2 | crash 2 after 9 keep 0
 -- | crash 0 after 9 keep 0 | go | crash 1 after 0 keep all | go | start 1 | go | session d on 1 | d: get 0`
@@ -282,7 +336,7 @@ transfers =
 
 -- the transaction of the session `g`
 abbrev pub late_xid : Xid
-late_xid = record { seg = 2; slot = 1; wrap = 1 }
+late_xid = second_of 2
 
 -- what stands at SCN 3
 abbrev pub rows_at_3 : List (ℕ × Value)
@@ -315,6 +369,10 @@ lost_row_is_read =
     reverse (Opened 0 0 ∷ Opened 1 1 ∷ Started 4 0 0 ∷ Changed 4 first_xid 0 Absent (Num (pos 7)) ∷ Started 6 0 0
     ∷ Marked 6 first_xid 2 ∷ Crashed 7 0 ∷ Refused 6 Lost ∷ Recovered 1 ∷ Started 9 1 2
     ∷ Rows 9 ((0, Num (pos 7)) ∷ []) ∷ [])
+
+-- the get tells nothing of what was kept with the mark
+abbrev pub kept_row_is_missed : Past
+kept_row_is_missed = Rows 9 [] ∷ drop 1 mark_kept
 
 -- the get is answered twice
 abbrev pub answered_twice : Past

@@ -14,6 +14,7 @@ ghost use Rattle.good_run.specs.Examples.{nothing_to_do, all_not_done, one_twice
 ghost use Rattle.good_run.specs.Examples.{little_undo, undo_is_old, undo_is_there, lost_row_is_read, answered_twice};
 ghost use Rattle.good_run.specs.Examples.{held_scan, old_rows_are_read, three_crashes, rolled_row_is_read};
 ghost use Rattle.good_run.specs.Examples.{transfers, half_is_read, acked_too_early};
+ghost use Rattle.good_run.specs.Examples.{crash_behind_mark, kept_row_is_missed, scan_beside, scan_between, scan_below};
 
 /// Examples of journals in which each line has its turn, and of ones in which one hasn't.
 pub fn lines_have_their_turns()
@@ -79,9 +80,13 @@ pub fn refusals_have_causes()
     ensures undo_is_there { refusals_are_good little_undo undo_is_there ≡ false }
 {}
 
-/// Examples of journals in which rows are wrong, a line is answered twice, or a commit is answered too early.
+/// Examples of journals in which rows are wrong, a line is answered twice, a commit is answered too early, or a
+/// statement starts below a commit that was answered.
 pub fn wrong_rows_and_answers_are_refused()
     ensures lost_row_is_read { GoodRows (asked crash_at_mark) lost_row_is_read → ⊥ }
+    ensures kept_row_is_missed { GoodRows (asked crash_behind_mark) kept_row_is_missed → ⊥ }
+    ensures scan_between { GoodRows (asked scan_beside) scan_between → ⊥ }
+    ensures scan_below { GoodJournal scan_below → ⊥ }
     ensures old_rows_are_read { GoodRows (asked held_scan) old_rows_are_read → ⊥ }
     ensures rolled_row_is_read { GoodRows (asked three_crashes) rolled_row_is_read → ⊥ }
     ensures half_is_read { GoodRows (asked transfers) half_is_read → ⊥ }
