@@ -7,7 +7,7 @@ ghost use Rattle.good_run.specs.Examples.{nothing_to_do, all_not_done, two_write
 ghost use Rattle.good_run.specs.Examples.{largest, sum_is_outside, held_scan, scan_as_started};
 ghost use Rattle.good_run.specs.Examples.{three_crashes, all_crash, transfers, sum_stays};
 ghost use Rattle.good_run.specs.Examples.{crash_behind_mark, mark_kept, scan_beside, scan_before, scan_after};
-ghost use Rattle.good_run.specs.Examples.{little_undo, undo_is_old, get_after_end};
+ghost use Rattle.good_run.specs.Examples.{get_after_end};
 
 /// Examples of runs that are good by all clauses.
 pub fn whole_runs_are_good()
@@ -26,6 +26,5 @@ pub fn whole_runs_are_good()
     ensures mark_kept { Good (λ status. status == 0) crash_behind_mark 0 mark_kept }
     ensures scan_before { Good (λ status. status == 0) scan_beside 0 scan_before }
     ensures scan_after { Good (λ status. status == 0) scan_beside 0 scan_after }
-    ensures undo_is_old { Good (λ status. status == 0) little_undo 0 undo_is_old }
     ensures get_after_end { Good (λ status. status == 6) crash_before_get 6 get_after_end }
 {}
