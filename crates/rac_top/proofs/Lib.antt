@@ -1,4 +1,5 @@
 pub mod LawLemmas
+pub mod NothingRun
 pub mod RanLemmas
 pub mod WholeLemmas
 pub mod AuditLemmas

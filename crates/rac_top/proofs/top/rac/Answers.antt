@@ -1,5 +1,12 @@
 -- What a run and an audit promise, each as one record.
-use Rattle.std.proofs.Common.{ap}
+use Rattle.std.proofs.Common.{◌≡◌, ◌⊎◌, ap, map, string_bytes, subst, sym}
+use Rattle.cli_words.specs.Orders.{order_in}
+use Rattle.rac_top.specs.declared.exit.End.TheVariants.{NoMemory, WrongWords}
+use Rattle.rac_top.specs.declared.exit.Exit.{Exit}
+use Rattle.rac_top.specs.Audits.{Audits}
+use Rattle.rac_top.specs.Calls.{ByOrder}
+use Rattle.rac_top.specs.Runs.{Runs}
+use Rattle.rac_top.proofs.NothingRun.{nothing-done}
 use Rattle.rac_top.proofs.top.rac.Goals as goal
 
 pub returns-in-Ok-Run-clause-does : goal.returns-in-Ok-Run-clause-does
@@ -30,3 +37,18 @@ returns-in-Ok-Audit-clause-does g c =
       no_run = c.audit.ensures.no_run;
       completes = c.audit.ensures.completes;
     })
+
+pub returns-clause-does : goal.returns-clause-does
+returns-clause-does g c =
+    let source = c.args.source.now in
+    let sink = c.args.sink.now in
+    let left = g.S.Source.left source in
+    let held = g.K.Sink.holds sink in
+    let wrote = g.K.Sink.faults sink in
+    let stalled = g.K.Sink.stalls sink in
+    let read = g.S.Source.faults source in
+    let disk = g.D.SharedDisk.state c.args.disk.now in
+    let order = order_in (map string_bytes c.args.words.now) in
+    subst (λ (exit : Exit). ByOrder order (λ options. Runs options left left read read held held wrote wrote stalled stalled disk disk exit)
+    (Audits held held wrote wrote stalled stalled disk disk exit) ((exit.end ≡ WrongWords) ⊎ (exit.end ≡ NoMemory)))
+    (sym c.without_run-in-Err-NoMemory.ensures) (nothing-done order left read held wrote stalled disk)
