@@ -1,8 +1,7 @@
 //! `rac run [--journal] [--steps] [--check] [--disk FOLDER]` runs the script on standard input by all its instances and
 //! writes its report to standard output, with its disk in a folder, or else in memory. The journal stands behind the
 //! report with `--journal`, the steps of the run behind that with `--steps`; with `--check` nothing is written where the
-//! journal isn't good. `rac load SEED ROUNDS [--disk FOLDER]` runs a script made from the seed, and sums its journal up.
-//! `rac audit --disk FOLDER` writes the history that the redo logs of a folder's disk tell.
+//! journal isn't good. `rac audit --disk FOLDER` writes the history that the redo logs of a folder's disk tell.
 #![tactic(auto)]
 
 ghost use Rattle.std.specs.Prelude.{◌≡◌, [], ◌⊎◌};

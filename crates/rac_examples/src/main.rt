@@ -1,5 +1,5 @@
 //! Runs the example scripts that lie in its folder, and tells of each whether it gives what stands beside it; then runs
-//! the program itself over a folder, audits that, and names a folder that isn't there; and makes a load.
+//! the program itself over a folder, audits that, and names a folder that isn't there.
 #![tactic(auto)]
 
 ghost use Rattle.std.specs.Prelude.{◌≡◌, IsTrue, ◌↔◌};
@@ -28,9 +28,6 @@ const SINK_BYTES: usize = 65_536;
 const EXAMPLES: [&str; 9] = [
     "first", "waves", "redo", "ping", "reader", "remaster", "crash", "leader", "join",
 ];
-
-/// What a load without rounds writes, whatever its seed.
-const FILLED: &[u8] = b"statements 69\ncommitted 4\nrolled back 0\nrefused 0\nsum 6400\n";
 
 /// The example whose redo is audited.
 const AUDITED: &str = "redo";
@@ -166,8 +163,7 @@ fn run_examples<R: Files + AllocGlobal + Print>(rt: &R) -> io::Result<bool> {
     Ok(all_same)
 }
 
-/// Runs the program itself over the folder where it is run, audits that, and names a folder that isn't there; then makes
-/// a load.
+/// Runs the program itself over the folder where it is run, audits that, and names a folder that isn't there.
 fn run_program<R: Files + AllocGlobal + Print>(rt: &R) -> io::Result<bool> {
     let script = fs::read(rt, "redo.rac")?;
     let report = fs::read(rt, "redo.out")?;
@@ -191,12 +187,6 @@ fn run_program<R: Files + AllocGlobal + Print>(rt: &R) -> io::Result<bool> {
         |_| AllocError,
     )?;
     all_same &= tell(rt, "the program over no folder", refused)?;
-
-    let none = Vec::new(rt.alloc());
-    let loaded = program_gives(rt, &["load", "7", "0"], none, &End::Done, FILLED).map_err(
-        |_| AllocError,
-    )?;
-    all_same &= tell(rt, "the program's load", loaded)?;
     Ok(all_same)
 }
 

@@ -21,7 +21,7 @@ rule_text rules.Twice = codes "twice"
 -- the line that is told of an end; none where all was read, run and written
 abbrev pub line_of : End → Option (List ℕ)
 line_of ends.Done = None
-line_of ends.WrongWords = Some (codes "usage: rac run [--journal] [--steps] [--check] [--disk FOLDER] | load SEED ROUNDS [--disk FOLDER] | audit --disk FOLDER")
+line_of ends.WrongWords = Some (codes "usage: rac run [--journal] [--steps] [--check] [--disk FOLDER] | audit --disk FOLDER")
 line_of (ends.Refused line rule) = Some (codes "line " ++ (decimal line ++ (codes ": " ++ rule_text rule)))
 line_of ends.ReadFault = Some (codes "read fault")
 line_of ends.WriteFault = Some (codes "write fault")

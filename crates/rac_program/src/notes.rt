@@ -8,7 +8,7 @@ use std::alloc::{AllocError, Global};
 
 /// What the words may be.
 const USAGE: &str =
-    "usage: rac run [--journal] [--steps] [--check] [--disk FOLDER] | load SEED ROUNDS [--disk FOLDER] | audit --disk FOLDER";
+    "usage: rac run [--journal] [--steps] [--check] [--disk FOLDER] | audit --disk FOLDER";
 
 /// A rule as it is told.
 fn rule_word(rule: Rule) -> &'static str

@@ -1,12 +1,11 @@
 ghost use Rattle.std.specs.Prelude.{◌≡◌, ◌⊎◌, IfOk, map, string_bytes};
 ghost use Rattle.cli_words.specs.Orders.{order_in};
-ghost use Rattle.rac_program.specs.Program.{Does, DoneOver, RanOut, folder_in, numbers_in};
+ghost use Rattle.rac_program.specs.Program.{Does, RanOut, folder_in};
 
-use crate::load_command::load;
 use base_types::NoMemory;
 use cli_words::{Folder, Order, WordsError, read_words};
 use file_disk::FileDisk;
-use rac_disk::{MemDisk, SharedDisk};
+use rac_disk::MemDisk;
 use rac_io::{Sink, Source};
 use rac_top::{End, Exit, rac};
 use std::alloc::Global;
@@ -24,42 +23,10 @@ fn folder_named(alloc: Global, words: &[String]) -> Result<Option<Folder>, NoMem
     ensures { IfOk result (λ folder. folder ≡ folder_in (order_in (map string_bytes words.now))) }
 {
     match read_words(alloc, words) {
-        Ok(Order::Run { folder, .. }) => Ok(folder),
-        Ok(Order::Load { folder, .. }) => Ok(folder),
+        Ok(Order::Run { folder, .. }) | Ok(Order::Load { folder, .. }) => Ok(folder),
         Ok(Order::Audit { folder }) => Ok(Some(folder)),
         Err(WordsError::Usage) => Ok(None),
         Err(WordsError::NoMemory) => Err(NoMemory),
-    }
-}
-
-/// The seed and the rounds of the load that the words ask; none where they ask none.
-fn numbers_named(alloc: Global, words: &[String]) -> Result<Option<(u64, u32)>, NoMemory>
-    ensures { IfOk result (λ numbers. numbers ≡ numbers_in (order_in (map string_bytes words.now))) }
-{
-    match read_words(alloc, words) {
-        Ok(Order::Load { seed, rounds, .. }) => Ok(Some((seed, rounds))),
-        Ok(Order::Run { .. }) | Ok(Order::Audit { .. }) => Ok(None),
-        Err(WordsError::Usage) => Ok(None),
-        Err(WordsError::NoMemory) => Err(NoMemory),
-    }
-}
-
-/// Does what the words ask over a disk.
-fn act<S: Source, K: Sink, D: SharedDisk>(
-    alloc: Global,
-    words: &[String],
-    source: &mut S,
-    sink: &mut K,
-    disk: &mut D,
-) -> Exit
-    ensures { RanOut result (source.new ≡ source.old) (sink.new ≡ sink.old) ⊎ DoneOver (order_in (map string_bytes words.now)) (S.left source.old) (S.left source.new) (S.faults source.old) (S.faults source.new)
-        (K.holds sink.old) (K.holds sink.new) (K.faults sink.old) (K.faults sink.new) (K.stalls sink.old) (K.stalls sink.new)
-        (D.state disk.old) (D.state disk.new) result }
-{
-    match numbers_named(alloc, words) {
-        Ok(Some((seed, rounds))) => load(alloc, seed, rounds, sink, disk),
-        Ok(None) => rac(alloc, words, source, sink, disk, &mut Nobody),
-        Err(NoMemory) => Exit::without_run(alloc, End::NoMemory),
     }
 }
 
@@ -77,11 +44,11 @@ pub fn program<R: Files + AllocGlobal, S: Source, K: Sink>(
     let alloc = rt.alloc();
     match folder_named(alloc, words) {
         Ok(Some(folder)) => match FileDisk::at(rt, folder.as_str()) {
-            Ok(mut disk) => act(alloc, words, source, sink, &mut disk),
+            Ok(mut disk) => rac(alloc, words, source, sink, &mut disk, &mut Nobody),
             Err(NoMemory) => Exit::without_run(alloc, End::NoMemory),
         },
         Ok(None) => match MemDisk::new(alloc, BLOCKS, LOG_BYTES, Vec::new(alloc)) {
-            Ok(mut disk) => act(alloc, words, source, sink, &mut disk),
+            Ok(mut disk) => rac(alloc, words, source, sink, &mut disk, &mut Nobody),
             Err(NoMemory) => Exit::without_run(alloc, End::NoMemory),
         },
         Err(NoMemory) => Exit::without_run(alloc, End::NoMemory),

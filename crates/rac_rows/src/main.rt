@@ -1,15 +1,12 @@
 //! Runs the scripts of a table over disks in memory, and tells of each whether it gives what stands beside it, whatever
-//! numbers stand in it for `N` and `M`; then the stored runs of its folder, with their faults, journals and steps; then
-//! loads of some seeds.
+//! numbers stand in it for `N` and `M`; then the stored runs of its folder, with their faults, journals and steps.
 #![tactic(auto)]
 
-mod loads;
 mod rows;
 mod stored;
 
 use base_types::NoMemory;
 use cli_words::RunOptions;
-use loads::{LOADS, are_expected};
 use rac_disk::MemDisk;
 use rac_io::{MemSink, MemSource};
 use rac_top::{End, run};
@@ -121,17 +118,7 @@ fn run_stored(rt: &HostRuntime) -> io::Result<bool> {
     Ok(all)
 }
 
-/// Makes each load, and tells of it; whether all are as expected.
-fn run_loads(rt: &HostRuntime) -> io::Result<bool> {
-    let mut all = true;
-    for kind in LOADS.iter() {
-        let is_same = are_expected(rt.alloc(), kind).map_err(|_| AllocError)?;
-        all &= tell(rt, kind.title, is_same)?;
-    }
-    Ok(all)
-}
-
 fn main(rt: HostRuntime) -> io::Result<ExitCode> {
-    let all = run_rows(&rt)? & run_stored(&rt)? & run_loads(&rt)?;
+    let all = run_rows(&rt)? & run_stored(&rt)?;
     Ok(ExitCode::from(u8::from(!all)))
 }

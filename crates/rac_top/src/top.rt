@@ -15,7 +15,7 @@ use std::alloc::Global;
 use world_machine::Observer;
 
 /// Does what the words ask, a run or an audit. The words are those after the program's name; the folder that they name
-/// is the caller's to open. A load is the caller's to make: here its words are wrong. The observer looks on at a run.
+/// is the caller's to open. A load isn't made yet: its words are wrong. The observer looks on at a run.
 pub fn rac<S: Source, K: Sink, D: SharedDisk, O: Observer>(
     alloc: Global,
     words: &[String],
