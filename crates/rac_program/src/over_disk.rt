@@ -23,7 +23,8 @@ fn folder_named(alloc: Global, words: &[String]) -> Result<Option<Folder>, NoMem
     ensures { IfOk result (λ folder. folder ≡ folder_in (order_in (map string_bytes words.now))) }
 {
     match read_words(alloc, words) {
-        Ok(Order::Run { folder, .. }) | Ok(Order::Load { folder, .. }) => Ok(folder),
+        Ok(Order::Run { folder, .. }) => Ok(folder),
+        Ok(Order::Load { folder, .. }) => Ok(folder),
         Ok(Order::Audit { folder }) => Ok(Some(folder)),
         Err(WordsError::Usage) => Ok(None),
         Err(WordsError::NoMemory) => Err(NoMemory),
